@@ -1,0 +1,14 @@
+use mathlib.Core.Path.{sym, ap, _∙_}
+use native.Mathlib.Omega.{arith}
+use Rattle.std.specs.declared.result.Result.the-variants.{Ok}
+use Rattle.records.specs.Format.{entry}
+use Rattle.records.specs.Reading.{held-as}
+use Rattle.records.proofs.Looking.{held-fits, size-pos}
+use Rattle.records.proofs.reading.Reader.next_held.Needs as need
+
+pub advance-requires : need.advance-requires
+advance-requires c κs =
+    let s = c .args .self .now in
+    let h = held-fits (c .args .counts .now) (s .heading) (s .log .now) (s .cursor) (s .state) (entry (c .in-Some .record)) (c .in-Some .state)
+    (sym (c .peek-held .ensures) ∙ ap held-as (c .in-Continue-record .was tt ∙ ap Ok (c .in-Some .is))) in
+    omega (arith, h, size-pos (entry (c .in-Some .record)))
