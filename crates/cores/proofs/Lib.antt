@@ -1,0 +1,2 @@
+mod OneCore
+mod LatestStore

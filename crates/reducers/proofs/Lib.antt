@@ -1,0 +1,3 @@
+mod RowLists
+mod Exacts
+mod CallLaws
