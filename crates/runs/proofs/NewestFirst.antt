@@ -49,7 +49,7 @@ in-cases e h x i = go (ℕ-discrete (core-of e) (x .core)) (decLe (x .count) (do
     go (yes q) (no l) = inl (same x (next h e) (sym q) (rw q (omega (arith, done-own e h (x .core) q))))
     go (no q) (no l) = absurd (omega (arith, done-other e h (x .core) q))
 
-position-inj : (h : Run) (x z : Instr) → 1 ≤ x .count → 1 ≤ z .count → Inside h x → Inside h z → position h x ≡ position h z → x ≡ z
+pub position-inj : (h : Run) (x z : Instr) → 1 ≤ x .count → 1 ≤ z .count → Inside h x → Inside h z → position h x ≡ position h z → x ≡ z
 position-inj [] x z m n i k p = absurd (omega arith)
 position-inj (e ∷ h) x z m n i k p = go (λ a b q. position-inj h x z m n a b q) (in-cases e h x i) (in-cases e h z k)
   where
@@ -92,7 +92,7 @@ pick-falls : (h : Run) (e : Event) (t : Run) → Agree t h → Falls (λ y. posi
 pick-falls h e [] a = tt
 pick-falls h e (f ∷ t) a = keep-falls h e f t (candidate h e (core-of f)) refl a (pick-falls h e t (agree-tail f t h a))
 
-given-met : (h : Run) (e : Event) (k : ℕ) (y : Candidate) → candidate h e k ≡ some y → Met h e (y .source)
+pub given-met : (h : Run) (e : Event) (k : ℕ) (y : Candidate) → candidate h e k ≡ some y → Met h e (y .source)
 given-met h e k y p =
     let s : Sound h e k y = cases h e k y p in
     cand-met h e y (λ q. s .other (sym (s .core) ∙ q)) (s .is)

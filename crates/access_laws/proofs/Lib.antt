@@ -1,0 +1,3 @@
+mod Recalling
+mod Ordering
+mod Giving
