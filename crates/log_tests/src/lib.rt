@@ -1,17 +1,13 @@
-// Tests of reading and writing logs: the worked bytes, and each fault's cause at its boundary.
+// Tests of reading logs: each fault's cause at its boundary.
 #[cfg(test)]
 mod tests {
     use logs::session::read_logs;
-    use logs::write_out::write_logs;
     use records::faults::ByteFault;
     use records::faults::Location;
     use records::faults::RecordFault;
     use records::faults::Refusal;
     use records::faults::SessionFault;
-    use records::format::Record;
-    use records::reading::Reader;
     use records::settings::Sizes;
-    use records::writing::write_record;
     use std::alloc::AllocError;
     use std::alloc::Global;
     use std::test::*;
@@ -85,6 +81,9 @@ mod tests {
         says(heap, &arc, 14, [9, 1, 0, 13, 1]).note("one byte left")?;
         says(heap, &arc, 15, [9, 1, 0, 13, 1]).note("the mark of an end, and no more")?;
         says(heap, &arc, 18, [9, 1, 0, 13, 1]).note("an end one byte short")?;
+        says(heap, &[0x41, 0x52, 1, 0, 1, 0, 1], 15, [9, 1, 0, 13, 2]).note(
+            "two bytes left, no mark",
+        )?;
         says(heap, &[0x48, 0x43, 0, 3, 0], 12, [9, 2, 0, 6, 3]).note(
             "a head later, even if right",
         )?;
@@ -217,154 +216,5 @@ mod tests {
         check_eq(numbers(read_logs(store.as_slice(), sizes)), [8, 0, 0, 0, 0]).note(
             "one byte short",
         )
-    }
-
-    // Core 1's log of the first worked run.
-    const WORKED: [u8; 19] = [
-        0x48,
-        0x43,
-        1,
-        3,
-        0,
-        2,
-        0x41,
-        0x52,
-        0,
-        0,
-        1,
-        0,
-        1,
-        0x45,
-        0x44,
-        0,
-        2,
-        0,
-        1,
-    ];
-
-    #[test]
-    fn worked_bytes_are_written() -> Result<(), Fail> {
-        let mut store = [0xee; 75];
-        let sizes = Sizes {
-            cores: 3,
-            cells: 2,
-            log_bytes: 25,
-        };
-        let head = Record::Head {
-            core: 1,
-            cores: 3,
-            cells: 2,
-        };
-        let arc = Record::Arc {
-            source: 0,
-            source_count: 1,
-            target_count: 1,
-        };
-        let end = Record::End {
-            instructions: 2,
-            arcs: 1,
-        };
-        check(matches!(write_record(&mut store, sizes, 1, 0, head), Ok(6)))?;
-        check(matches!(write_record(&mut store, sizes, 1, 6, arc), Ok(13)))?;
-        check(matches!(write_record(&mut store, sizes, 1, 13, end), Ok(19)))?;
-        check(store[25..44] == WORKED[0..19])?;
-        check(matches!(write_record(&mut store, sizes, 2, 19, end), Ok(25))).note(
-            "up to the log's last byte",
-        )?;
-        check(matches!(
-            write_record(&mut store, sizes, 1, 20, end),
-            Err(Refusal::BadSetting)
-        )).note("one byte too far")?;
-        check(matches!(
-            write_record(&mut store, sizes, 3, 0, end),
-            Err(Refusal::BadSetting)
-        )).note("no such log")?;
-        check(store[44..69] == [0xee; 25]).note("nothing written behind the end or on a refusal")
-    }
-
-    #[test]
-    fn reading_resumes(rt: LibcRuntime) -> Result<(), Fail> {
-        let arcs = [
-            0x41,
-            0x52,
-            2,
-            0,
-            1,
-            0,
-            2,
-            0x41,
-            0x52,
-            1,
-            0,
-            1,
-            0,
-            2,
-            0x45,
-            0x44,
-            0,
-            2,
-            0,
-            2,
-        ];
-        let store = store_of(rt.alloc(), &arcs, 40)?;
-        let sizes = Sizes {
-            cores: 3,
-            cells: 2,
-            log_bytes: 40,
-        };
-        let Ok(mut reader) = Reader::new(store.as_slice(), sizes, 0) else {
-            return Err(Fail::new("no reader"));
-        };
-        check(reader.place().is_none()).note("before the head")?;
-        check(matches!(reader.next_record(), Ok(Some(Record::Head { .. }))))?;
-        check(matches!(reader.next_record(), Ok(Some(Record::Arc { source: 2, .. }))))?;
-        let Some(place) = reader.place() else {
-            return Err(Fail::new("no place among the arcs"));
-        };
-        check_eq(place.offset, 13)?;
-        let Ok(mut again) = Reader::resume(store.as_slice(), sizes, 0, place) else {
-            return Err(Fail::new("no reader"));
-        };
-        check(matches!(again.next_record(), Ok(Some(Record::Arc { source: 1, .. }))))?;
-        check(matches!(
-            again.next_record(),
-            Ok(Some(Record::End {
-                instructions: 2,
-                arcs: 2
-            }))
-        ))?;
-        check(matches!(again.next_record(), Ok(None))).note("after the end nothing more is read")?;
-        check_eq(again.instructions(), 2)
-    }
-
-    #[test]
-    fn logs_are_written_out(rt: LibcRuntime) -> Result<(), Fail> {
-        let arcs = [0x41, 0x52, 2, 0, 1, 0, 2, 0x45, 0x44, 0, 2, 0, 1];
-        let mut store = store_of(rt.alloc(), &arcs, 20)?;
-        let sizes = Sizes {
-            cores: 3,
-            cells: 2,
-            log_bytes: 20,
-        };
-        let mut out = [0xee; 61];
-        check(matches!(
-            write_logs(store.as_slice(), sizes, &mut out[0..59]),
-            Err(Refusal::BadSetting)
-        ))?;
-        check(out == [0xee; 61]).note("too few output bytes: nothing written")?;
-        check(write_logs(store.as_slice(), sizes, &mut out).is_ok())?;
-        check(store.len() == 60)?;
-        check(out[0..19] == store[0..19])?;
-        check(out[19] == 0xee).note("behind the end of the first log")?;
-        check(out[20..32] == SECOND[0..12])?;
-        check(out[40..52] == THIRD[0..12])?;
-        check(out[52..61] == [0xee; 9]).note("behind the last end, and behind the logs")?;
-        store[12] = 0;
-        let mut other = [0xee; 60];
-        check(matches!(
-            write_logs(store.as_slice(), sizes, &mut other),
-            Err(Refusal::LogFault(_))
-        ))?;
-        check(other == [0xee; 60]).note("a fault: nothing written")
     }
 }
