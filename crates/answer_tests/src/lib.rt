@@ -1,4 +1,6 @@
 // Tests of the bench program's answer: runs of every kind and reducer, and input that describes no session.
+#![tactic(auto)]
+
 #[cfg(test)]
 mod tests {
     use bench_answer::answer::answer;

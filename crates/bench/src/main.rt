@@ -1,4 +1,6 @@
 // `bench` reads a session from standard input, records and replays it, and prints its arcs, its cells and its steps.
+#![tactic(auto)]
+
 use bench_answer::answer::answer;
 use std::io::Read;
 

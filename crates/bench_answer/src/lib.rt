@@ -1,3 +1,5 @@
 // What the bench program answers to its input.
+#![tactic(auto)]
+
 pub mod answer;
 mod buffers;

@@ -1,4 +1,6 @@
 // The description of a session as text: decimal numbers, separated by white space.
+#![tactic(auto)]
+
 pub mod errors;
 pub mod input;
 pub mod laws;

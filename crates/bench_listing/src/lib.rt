@@ -1,3 +1,5 @@
 // The text of a recorded and replayed run.
+#![tactic(auto)]
+
 mod lines;
 pub mod listing;

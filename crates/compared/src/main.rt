@@ -1,5 +1,7 @@
 // `compared` reads cases from standard input, each an input of the bench program and the lines that a second,
 // independent program answers to it, and says for how many of them the bench program answers the same.
+#![tactic(auto)]
+
 use bench_answer::answer::answer;
 use std::alloc::{AllocError, Global};
 

@@ -1,4 +1,6 @@
 // Tests of the two kinds of core over cells.
+#![tactic(auto)]
+
 #[cfg(test)]
 mod tests {
     use cores::acting::{act, cell_exists, request_of, tell_core};

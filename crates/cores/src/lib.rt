@@ -1,4 +1,6 @@
 // Cores, what they request, and how a request acts on the cells.
+#![tactic(auto)]
+
 pub mod acting;
 pub mod core;
 pub mod laws;

@@ -1,4 +1,6 @@
 // `inspect FILE P C L` lists what the log store in FILE holds, for P cores, C cells and L bytes a log.
+#![tactic(auto)]
+
 ghost use Rattle.std.specs.Prelude.{◌≡◌, IfOk, Some};
 ghost use Rattle.listing.specs.Words.{argument};
 

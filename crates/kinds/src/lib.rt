@@ -1,4 +1,6 @@
 // Turns at each of the three reducers: one outcome each.
+#![tactic(auto)]
+
 ghost use Rattle.core.specs.Prelude.{◌≡◌};
 ghost use Rattle.recorder.specs.Decided.{turned_by, exactly, nothing, known_only};
 ghost use Rattle.recorder.specs.Turns.{rules, scene, answered, said, kept, unmoved};

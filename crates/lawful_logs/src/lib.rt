@@ -1,4 +1,6 @@
 // The logs of every recording obey the rules of logs.
+#![tactic(auto)]
+
 ghost use Rattle.lawful_logs.specs.Orderly.{TracesAreOrderly, NewIsOrderly, OrderlyIsAccepted};
 
 use reducers::interface::Reducer;

@@ -1,4 +1,6 @@
 // Tests of the listing: a store with each of the six causes, and stores of arbitrary bytes.
+#![tactic(auto)]
+
 #[cfg(test)]
 mod tests {
     use listing::listing::list_logs;

@@ -1,4 +1,6 @@
 // Tests of reading logs: each fault's cause at its boundary.
+#![tactic(auto)]
+
 #[cfg(test)]
 mod tests {
     use logs::session::read_logs;

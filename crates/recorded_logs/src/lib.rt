@@ -1,4 +1,6 @@
 // What the bytes of a store say after begin and after turns.
+#![tactic(auto)]
+
 ghost use Rattle.recorded_logs.specs.Held.{BeginHolds, TurnHolds, SurplusStays};
 
 // Holds the law that begin makes every log one of no arcs, and leaves the bytes behind its end.

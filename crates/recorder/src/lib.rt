@@ -1,4 +1,6 @@
 // Records the turns of cores over shared cells.
+#![tactic(auto)]
+
 mod arcs;
 pub mod ledger;
 pub mod recording;

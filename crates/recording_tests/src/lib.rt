@@ -1,4 +1,6 @@
 // Tests of recording: begin, turns, their answers and the logs that they leave.
+#![tactic(auto)]
+
 #[cfg(test)]
 mod tests {
     use cores::core::{Core, Request};

@@ -1,4 +1,6 @@
 // The records of a log: their bytes, writing one at its place, and reading one after another.
+#![tactic(auto)]
+
 pub mod faults;
 pub mod format;
 pub mod reading;

@@ -1,4 +1,6 @@
 // A reducer that forgets, which shows that the interface asks for no more than the bounds; and tests of the three reducers.
+#![tactic(auto)]
+
 pub mod forgetful;
 
 #[cfg(test)]

@@ -1,4 +1,6 @@
 // Reducers: which orderings between instructions of different cores are already known.
+#![tactic(auto)]
+
 pub mod exact;
 pub mod interface;
 pub mod keep_all;

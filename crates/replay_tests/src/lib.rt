@@ -1,4 +1,6 @@
 // Tests of replaying: openings, steps that wait, runs, and logs damaged after they were opened.
+#![tactic(auto)]
+
 #[cfg(test)]
 mod tests {
     use cores::core::Request;

@@ -1,4 +1,6 @@
 // What was recorded replays as it ran: no dropped ordering was needed.
+#![tactic(auto)]
+
 ghost use Rattle.std.specs.Prelude.{ℕ, List};
 ghost use Rattle.replays.specs.Promise.{NoDroppedOrderingWasNeeded};
 

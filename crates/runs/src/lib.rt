@@ -1,4 +1,6 @@
 // The theory of runs: what recordings keep of the order of a run, and what replays of them show.
+#![tactic(auto)]
+
 ghost use Rattle.std.specs.Prelude.{◌≡◌, ℕ, List};
 ghost use Rattle.cores.specs.Memory.{Rules};
 ghost use Rattle.reducers.specs.Numbers.{◌⊑◌};

@@ -1,4 +1,6 @@
 // A whole session: turns are recorded, the logs opened again, and the replay stepped and run to its end.
+#![tactic(auto)]
+
 mod replaying;
 pub mod session;
 mod turning;

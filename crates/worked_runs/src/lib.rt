@@ -1,4 +1,6 @@
 // Runs worked through, over the definitions of begin, turn, opening, step and run.
+#![tactic(auto)]
+
 ghost use Rattle.worked_runs.specs.Runs.{WorkedRuns};
 
 // Holds the eight worked runs together: the arcs with each reducer, the bytes of a log, a wait and a run, and the least log.

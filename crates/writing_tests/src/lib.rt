@@ -1,4 +1,6 @@
 // Tests of writing logs: the worked bytes, resuming a reader, and writing out.
+#![tactic(auto)]
+
 #[cfg(test)]
 mod tests {
     use logs::write_out::write_logs;

@@ -8,5 +8,5 @@ pub advance-requires : goal.advance-requires
 advance-requires c =
     let s = c.args.self.now in
     let h = held_fits c.args.counts.now s.heading s.log.now s.cursor s.state (entry c.in-Some.record) c.in-Some.state
-    (sym c.peek-held.ensures ∙ ap held_as (c.in-ok-record.was ∙ ap Ok c.in-Some.is)) in
+    (sym c.peek_held.ensures ∙ ap held_as (c.in_ok-record.was ∙ ap Ok c.in-Some.is)) in
     omega (arith, h, size_pos (entry c.in-Some.record))
