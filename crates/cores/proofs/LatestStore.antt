@@ -1,11 +1,10 @@
 -- In a run of accepted turns a cell holds what was stored to it latest, so that is what a read or an exchange brings.
-use Rattle.std.proofs.Common.{◌≡◌, ℕ, ◌<◌, Bool, true, false, cond, ◌&&◌, ltb, ◌⊎◌, List, [], ◌∷◌, ◌++◌, length, get_or, set, sym, refl, ap, ◌∙◌, subst, inl, inr, arith}
-use Rattle.std.specs.List.{AllByRecursion as All}
+use Rattle.std.proofs.Common.{◌≡◌, ℕ, ◌<◌, Bool, true, false, cond, ltb, List, [], ◌∷◌, ◌++◌, length, get_or, set, sym, refl, ap, ◌∙◌, subst, inl, inr, arith}
 use Rattle.std.proofs.lemmas.List.{get_or-set_same, get_or-set_other, length-set}
 use Rattle.std.proofs.lemmas.Bool.{and_parts, ltb-true, cases_eq}
 use Rattle.cores.specs.declared.core.Request.{Request}
 use Rattle.cores.specs.declared.core.Request.TheVariants.{Halt, Local, Read, Write, Exchange}
-use Rattle.cores.specs.Latest.{Reads, Stores, Untouched, Latest, ReadsBringTheLatestStore}
+use Rattle.cores.specs.Latest.{Reads, Stores, Latest, ReadsBringTheLatestStore}
 use Rattle.cores.specs.Memory.{Rules, Memory, Outcome, brought, stored, able, outcome, effect, turned, accepts, plain, Accepted, outcomes, fed, unrefused, RefusedTurnsChangeNothing}
 
 pub refused_turns_change_nothing : RefusedTurnsChangeNothing

@@ -1,5 +1,5 @@
 -- What an instruction reads: the number of the latest earlier store to its cell, or the starting number.
-use Rattle.std.specs.Prelude.{◌≡◌, ℕ, ◌⊎◌, List, [], ◌∷◌, ◌++◌, slice_index}
+use Rattle.std.specs.Prelude.{◌≡◌, ℕ, ◌⊎◌, List, ◌∷◌, ◌++◌, slice_index}
 use Rattle.std.specs.List.{AllByRecursion as All}
 use Rattle.cores.specs.declared.core.Request.{Request}
 use Rattle.cores.specs.declared.core.Request.TheVariants.{Halt, Local, Read, Write, Exchange}

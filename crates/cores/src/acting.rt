@@ -7,7 +7,7 @@ use crate::core::{Core, Request};
 
 // What core `j` requests, if there is such a core.
 pub fn request_of<K: Core>(text: &[u8], cores: &[K], j: usize) -> Option<Request>
-    ensures { result ≡ requested next text.now (map state cores.now) j }
+    ensures { result ≡ requested K.next text.now (map K.state cores.now) j }
 {
     if j >= cores.len() {
         return None;
@@ -66,7 +66,7 @@ fn store(cells: &mut [u16], cell: u16, number: u16)
 
 // Tells core `j` a number: the core is copied out, told and written back. Where there is no such core, nothing changes.
 pub fn tell_core<K: Core>(text: &[u8], cores: &mut [K], j: usize, number: u16)
-    ensures states { map state cores.new ≡ told after text.now (map state cores.old) j number }
+    ensures states { map K.state cores.new ≡ told K.after text.now (map K.state cores.old) j number }
     ensures others { OthersKept j cores.old cores.new }
 {
     if j < cores.len() {
@@ -76,7 +76,7 @@ pub fn tell_core<K: Core>(text: &[u8], cores: &mut [K], j: usize, number: u16)
 }
 
 fn told_copy<K: Core>(text: &[u8], core: K, number: u16) -> K
-    ensures { state result ≡ after text.now (state core) number }
+    ensures { K.state result ≡ K.after text.now (K.state core) number }
 {
     let mut later = core;
     later.tell(text, number);

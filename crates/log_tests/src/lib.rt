@@ -66,6 +66,7 @@ mod tests {
         rest: &[u8],
         size: usize,
         expected: [usize; 5],
+        case: &str,
     ) -> Result<(), Fail> {
         let store = store_of(heap, rest, size)?;
         let sizes = Sizes {
@@ -73,7 +74,11 @@ mod tests {
             cells: 2,
             log_bytes: size,
         };
-        assert_eq!(rt; numbers(read_logs(store.as_slice(), sizes)), expected);
+        assert_eq!(rt;
+            numbers(read_logs(store.as_slice(), sizes)),
+            expected,
+            "{case}"
+        );
         Ok(())
     }
 
@@ -81,45 +86,139 @@ mod tests {
     fn cut_and_unknown_marks(rt: HostRuntime) -> Result<(), Fail> {
         let heap = rt.alloc();
         let arc = [0x41, 0x52, 1, 0, 1, 0, 1, 0x45, 0x44];
-        says(&rt, heap, &arc, 12, [9, 1, 0, 6, 1]).note("a cut arc")?;
-        says(&rt, heap, &arc, 13, [9, 1, 0, 13, 1]).note("no byte left")?;
-        says(&rt, heap, &arc, 14, [9, 1, 0, 13, 1]).note("one byte left")?;
-        says(&rt, heap, &arc, 15, [9, 1, 0, 13, 1]).note("the mark of an end, and no more")?;
-        says(&rt, heap, &arc, 18, [9, 1, 0, 13, 1]).note("an end one byte short")?;
+        says(&rt, heap, &arc, 12, [9, 1, 0, 6, 1], "a cut arc")?;
+        says(&rt, heap, &arc, 13, [9, 1, 0, 13, 1], "no byte left")?;
+        says(&rt, heap, &arc, 14, [9, 1, 0, 13, 1], "one byte left")?;
+        says(
+            &rt,
+            heap,
+            &arc,
+            15,
+            [9, 1, 0, 13, 1],
+            "the mark of an end, and no more",
+        )?;
+        says(
+            &rt,
+            heap,
+            &arc,
+            18,
+            [9, 1, 0, 13, 1],
+            "an end one byte short",
+        )?;
         says(
             &rt,
             heap,
             &[0x41, 0x52, 1, 0, 1, 0, 1],
             15,
             [9, 1, 0, 13, 2],
-        )
-        .note("two bytes left, no mark")?;
-        says(&rt, heap, &[0x48, 0x43, 0, 3, 0], 12, [9, 2, 0, 6, 3]).note(
+            "two bytes left, no mark",
+        )?;
+        says(
+            &rt,
+            heap,
+            &[0x48, 0x43, 0, 3, 0],
+            12,
+            [9, 2, 0, 6, 3],
             "a head later, even if right",
         )?;
-        says(&rt, heap, &[0x41, 0x53], 12, [9, 1, 0, 6, 2])?;
-        says(&rt, heap, &[0x52, 0x41], 12, [9, 1, 0, 6, 2])
+        says(
+            &rt,
+            heap,
+            &[0x41, 0x53],
+            12,
+            [9, 1, 0, 6, 2],
+            "an unknown mark",
+        )?;
+        says(
+            &rt,
+            heap,
+            &[0x52, 0x41],
+            12,
+            [9, 1, 0, 6, 2],
+            "an unknown mark",
+        )
     }
 
     #[test]
     fn arcs_and_ends(rt: HostRuntime) -> Result<(), Fail> {
         let heap = rt.alloc();
         let one = [0x41, 0x52, 1, 0, 3, 0, 1, 0x45, 0x44, 0, 1, 0, 1];
-        says(&rt, heap, &one, 40, [0, 1, 3, 3, 0]).note("source count equal to the instructions")?;
+        says(
+            &rt,
+            heap,
+            &one,
+            40,
+            [0, 1, 3, 3, 0],
+            "source count equal to the instructions",
+        )?;
         let above = [0x41, 0x52, 1, 0, 4, 0, 1, 0x45, 0x44, 0, 1, 0, 1];
-        says(&rt, heap, &above, 40, [9, 3, 0, 6, 6]).note("source count one above")?;
-        says(&rt, heap, &[0x41, 0x52, 0, 0, 1, 0, 1], 40, [9, 2, 0, 6, 4]).note("own core")?;
-        says(&rt, heap, &[0x41, 0x52, 3, 0, 1, 0, 1], 40, [9, 2, 0, 6, 4]).note("no such core")?;
-        says(&rt, heap, &[0x41, 0x52, 1, 0, 0, 0, 1], 40, [9, 2, 0, 6, 4]).note("source count 0")?;
-        says(&rt, heap, &[0x41, 0x52, 1, 0, 1, 0, 0], 40, [9, 2, 0, 6, 4]).note("target count 0")?;
-        says(&rt, heap, &[0x45, 0x44, 0, 0, 0, 1], 40, [9, 2, 0, 6, 5]).note("an arc too many")?;
-        says(&rt, heap, &[0x45, 0x44, 0, 0, 0, 0], 12, [0, 0, 3, 3, 0]).note(
+        says(
+            &rt,
+            heap,
+            &above,
+            40,
+            [9, 3, 0, 6, 6],
+            "source count one above",
+        )?;
+        says(
+            &rt,
+            heap,
+            &[0x41, 0x52, 0, 0, 1, 0, 1],
+            40,
+            [9, 2, 0, 6, 4],
+            "own core",
+        )?;
+        says(
+            &rt,
+            heap,
+            &[0x41, 0x52, 3, 0, 1, 0, 1],
+            40,
+            [9, 2, 0, 6, 4],
+            "no such core",
+        )?;
+        says(
+            &rt,
+            heap,
+            &[0x41, 0x52, 1, 0, 0, 0, 1],
+            40,
+            [9, 2, 0, 6, 4],
+            "source count 0",
+        )?;
+        says(
+            &rt,
+            heap,
+            &[0x41, 0x52, 1, 0, 1, 0, 0],
+            40,
+            [9, 2, 0, 6, 4],
+            "target count 0",
+        )?;
+        says(
+            &rt,
+            heap,
+            &[0x45, 0x44, 0, 0, 0, 1],
+            40,
+            [9, 2, 0, 6, 5],
+            "an arc too many",
+        )?;
+        says(
+            &rt,
+            heap,
+            &[0x45, 0x44, 0, 0, 0, 0],
+            12,
+            [0, 0, 3, 3, 0],
             "no arcs, no instructions",
         )?;
         let short = [0x41, 0x52, 1, 0, 1, 0, 1, 0x45, 0x44, 0, 1, 0, 0];
-        says(&rt, heap, &short, 40, [9, 2, 0, 13, 5]).note("an arc too few")?;
+        says(&rt, heap, &short, 40, [9, 2, 0, 13, 5], "an arc too few")?;
         let below = [0x41, 0x52, 1, 0, 1, 0, 2, 0x45, 0x44, 0, 1, 0, 1];
-        says(&rt, heap, &below, 40, [9, 2, 0, 13, 5]).note("instructions below the last target")
+        says(
+            &rt,
+            heap,
+            &below,
+            40,
+            [9, 2, 0, 13, 5],
+            "instructions below the last target",
+        )
     }
 
     #[test]
@@ -129,15 +228,25 @@ mod tests {
             0x41, 0x52, 2, 0, 1, 0, 2, 0x41, 0x52, 1, 0, 1, 0, 2, 0x41, 0x52, 2, 0, 2, 0, 3, 0x45,
             0x44, 0, 3, 0, 3,
         ];
-        says(&rt, heap, &arcs, 40, [0, 3, 3, 3, 0]).note(
+        says(
+            &rt,
+            heap,
+            &arcs,
+            40,
+            [0, 3, 3, 3, 0],
             "equal targets from two cores, in any order",
         )?;
         arcs[20] = 2;
-        says(&rt, heap, &arcs, 40, [9, 2, 0, 20, 4]).note(
+        says(
+            &rt,
+            heap,
+            &arcs,
+            40,
+            [9, 2, 0, 20, 4],
             "the same target and source core twice, not adjacent",
         )?;
         arcs[20] = 1;
-        says(&rt, heap, &arcs, 40, [9, 2, 0, 20, 4]).note("a falling target")
+        says(&rt, heap, &arcs, 40, [9, 2, 0, 20, 4], "a falling target")
     }
 
     #[test]

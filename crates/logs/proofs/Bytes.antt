@@ -1,12 +1,12 @@
 -- A record is read as it is written, bytes that are read as a record are its bytes, and bytes that are not break a rule of layer 1.
-use Rattle.std.proofs.Common.{◌≡◌, ℕ, ◌+◌, ◌*◌, ◌/◌, ◌%◌, ◌<◌, ◌≤◌, Bool, true, false, cond, ◌&&◌, eqb, List, [], ◌∷◌, ◌++◌, length, drop, Ok, Err, Result, sym, refl, ap, ◌∙◌, subst, mul_comm, arith}
+use Rattle.std.proofs.Common.{◌≡◌, ℕ, ◌+◌, ◌/◌, ◌%◌, ◌<◌, Bool, true, false, cond, eqb, List, [], ◌∷◌, ◌++◌, length, drop, Ok, Err, Result, refl, ap, ◌∙◌, subst, mul_comm, arith}
 use native.Mathlib.Nat.{div-add-mod}
 use lib.Arith.{digits_div, digits_mod}
 use Rattle.std.specs.List.{AllByRecursion as All}
 use Rattle.std.proofs.lemmas.Bool.{and_parts, eqb-true}
 use Rattle.records.specs.declared.settings.Heading.{Heading}
 use Rattle.records.specs.Faults.{Fault}
-use Rattle.records.specs.Format.{LogArc, Entry, head, arc, end, bytes_of}
+use Rattle.records.specs.Format.{Entry, head, arc, end, bytes_of}
 use Rattle.records.specs.Reading.{broken, count_of, marked, head_after, arc_after, end_after, entry_at}
 use Rattle.logs.specs.Lawful.{Marks, head_mark, arc_mark, end_mark, Breaks, no_mark, cut, unknown_mark}
 

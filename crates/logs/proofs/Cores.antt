@@ -1,5 +1,5 @@
 -- The loops over the cores of a session: what is still to be read gives what the whole session gives.
-use Rattle.std.proofs.Common.{◌≡◌, ℕ, zero, suc, ◌+◌, ◌-◌, ◌<◌, ◌≤◌, Bool, true, false, cond, ◌&&◌, ltb, List, [], ◌∷◌, length, set, Ok, Err, Result, sym, refl, ap, ◌∙◌, arith}
+use Rattle.std.proofs.Common.{◌≡◌, ℕ, suc, ◌+◌, ◌-◌, ◌<◌, ◌≤◌, Bool, true, false, cond, ◌&&◌, ltb, List, length, set, Ok, Err, refl, ap, ◌∙◌, arith}
 use Rattle.records.specs.declared.reading.Reader.{Reader}
 use Rattle.records.specs.declared.reading.State.TheVariants.{Before}
 use Rattle.records.specs.declared.settings.Sizes.{Sizes}
@@ -7,7 +7,7 @@ use Rattle.records.specs.Faults.{Fault, bad_setting}
 use Rattle.records.specs.Reading.{View, view, reader_at, reader_as}
 use Rattle.records.specs.Settings.{fits, log_of, heading_of}
 use Rattle.logs.specs.Session.{read_log, hold_log, onward, gathered, tested}
-use Rattle.logs.specs.Walk.{reading_from, holding_from, at_front}
+use Rattle.logs.specs.Walk.{at_front}
 
 cond_front : (b : Bool) (v w : View) (refused : List ℕ) → Ok v ≡ cond b (Ok w) (Err refused) → v ≡ w
 cond_front true v w refused q = cc

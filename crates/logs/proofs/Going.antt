@@ -1,5 +1,5 @@
 -- A loop that reads record by record: in each round, the walk from where the reader stands gives what the whole walk gives.
-use Rattle.std.proofs.Common.{◌≡◌, ℕ, zero, suc, ◌+◌, ◌-◌, ◌<◌, ◌≤◌, List, [], ◌∷◌, length, Some, None, Ok, Err, Option, Result, sym, refl, ap, ◌∙◌, subst, arith}
+use Rattle.std.proofs.Common.{◌≡◌, ℕ, zero, suc, ◌+◌, ◌-◌, ◌<◌, ◌≤◌, List, length, Some, None, Ok, Err, Option, Result, sym, refl, ap, ◌∙◌, subst, arith}
 use Rattle.records.specs.declared.reading.State.{State}
 use Rattle.records.specs.Faults.{Fault}
 use Rattle.records.specs.Format.{Entry, bytes_of}

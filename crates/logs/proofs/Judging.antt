@@ -1,5 +1,5 @@
 -- Reading a log to its end or first fault: the whole log holds, or the records before the fault are lawful and what stands there breaks the named cause.
-use Rattle.std.proofs.Common.{◌≡◌, ℕ, zero, suc, ◌+◌, ◌-◌, ◌/◌, ◌<◌, ◌≤◌, min, Bool, true, false, cond, not, ◌&&◌, eqb, leb, ◌⊎◌, List, [], ◌∷◌, ◌++◌, map, length, drop, set, Some, None, Ok, Err, Result, sym, refl, ap, ◌∙◌, subst, inl, inr, arith}
+use Rattle.std.proofs.Common.{◌≡◌, ℕ, zero, suc, ◌+◌, ◌-◌, ◌/◌, ◌<◌, ◌≤◌, Bool, true, false, cond, ◌&&◌, eqb, leb, List, [], ◌∷◌, ◌++◌, map, length, drop, set, Some, Ok, Err, Result, sym, refl, ap, ◌∙◌, subst, inl, inr, arith}
 use Rattle.std.specs.List.{AllByRecursion as All}
 use Rattle.std.proofs.ByRecursion.{All-drop}
 use Rattle.std.proofs.lemmas.List.{drop-drop, append_assoc, append-nil, length-append, length-drop}
@@ -9,10 +9,10 @@ use Rattle.records.specs.declared.reading.State.TheVariants.{Before, Among, Afte
 use Rattle.records.specs.declared.settings.Heading.{Heading}
 use Rattle.records.specs.Faults.{Fault}
 use Rattle.records.specs.Format.{LogArc, Entry, head, arc, end, bytes_of, written}
-use Rattle.records.specs.Reading.{broken, entry_at, arc_stands, one_more, no_targets, follows, passed, judged, View, moved}
-use Rattle.records.proofs.Looking.{entry_fits, size_pos}
-use Rattle.logs.specs.Lawful.{Any, Stands, Behind, Lawful, front, whole, Holds, BadArc, BadEnd, wrong_arcs, too_few_instructions, Breaks, no_head, head_later, bad_arc, bad_end, Front, Broken, Judged}
-use Rattle.logs.specs.Walk.{Reading, prefixed, stopped, told, walk, look, reading_from, at_front}
+use Rattle.records.specs.Reading.{broken, entry_at, arc_stands, one_more, no_targets, passed, judged, View, moved}
+use Rattle.records.proofs.Looking.{entry_fits}
+use Rattle.logs.specs.Lawful.{Lawful, front, whole, BadEnd, wrong_arcs, too_few_instructions, Breaks, no_head, head_later, bad_arc, bad_end, Front, Judged}
+use Rattle.logs.specs.Walk.{Reading, prefixed, stopped, walk, look, reading_from, at_front}
 use Rattle.logs.proofs.Bytes.{written_back, drop_front, unread}
 use Rattle.logs.proofs.Going.{walk_some, walk_fault}
 use Rattle.logs.proofs.Rules.{Knows, knows_none, knows_push, stands_follows, fails_breaks, lawful_push, all_map, any_map}

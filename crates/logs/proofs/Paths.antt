@@ -1,5 +1,5 @@
 -- A log that is written by the rules is read as it was written, arc by arc, and held to the instructions of every core up to the first arc from beyond.
-use Rattle.std.proofs.Common.{◌≡◌, ℕ, zero, suc, ◌+◌, ◌-◌, ◌/◌, ◌<◌, ◌≤◌, min, Bool, true, false, cond, not, ◌&&◌, eqb, ltb, leb, ◌⊎◌, List, [], ◌∷◌, ◌++◌, map, length, get_or, drop, set, Some, None, Ok, Err, Result, sym, refl, ap, ◌∙◌, subst, inl, inr, arith}
+use Rattle.std.proofs.Common.{◌≡◌, ℕ, zero, suc, ◌+◌, ◌/◌, ◌<◌, ◌≤◌, Bool, true, false, cond, eqb, ltb, leb, ◌⊎◌, List, [], ◌∷◌, ◌++◌, map, length, get_or, drop, set, Some, Ok, Err, Result, sym, refl, ap, ◌∙◌, subst, inl, inr, arith}
 use Rattle.std.specs.List.{AllByRecursion as All}
 use Rattle.std.proofs.ByRecursion.{All-drop}
 use Rattle.std.proofs.lemmas.List.{drop-drop, drop_at, append_assoc, append-nil, length-append, length_push}
@@ -9,10 +9,10 @@ use Rattle.records.specs.declared.reading.State.TheVariants.{Before, Among, Afte
 use Rattle.records.specs.declared.settings.Heading.{Heading}
 use Rattle.records.specs.Faults.{Fault}
 use Rattle.records.specs.Format.{LogArc, Entry, head, arc, end, bytes_of, written}
-use Rattle.records.specs.Reading.{broken, entry_at, arc_stands, one_more, no_targets, follows, passed, judged, held_at, View, moved}
+use Rattle.records.specs.Reading.{broken, entry_at, arc_stands, one_more, no_targets, passed, judged, held_at, View, moved}
 use Rattle.logs.specs.Lawful.{Any, Stands, Behind, Lawful, front, whole, Holds, Within, BadArc, no_such_core, own_core, no_source_count, no_target_count, target_falls, source_twice}
-use Rattle.logs.specs.Walk.{Reading, prefixed, stopped, told, walk, look, look_held, reading_from, holding_from, at_front}
-use Rattle.logs.proofs.Bytes.{read_back, drop_front}
+use Rattle.logs.specs.Walk.{prefixed, stopped, walk, look, look_held, reading_from, holding_from, at_front}
+use Rattle.logs.proofs.Bytes.{read_back}
 use Rattle.logs.proofs.Going.{walk_some, walk_fault}
 use Rattle.logs.proofs.Judging.{written_append, front_push, push_size}
 use Rattle.logs.proofs.Rules.{Knows, knows_none, knows_push, stands_follows, fails_breaks, lawful_at, never_both, all_push}

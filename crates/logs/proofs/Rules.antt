@@ -1,12 +1,12 @@
 -- The reader's state stands for the arcs read so far, and its test of the next arc decides whether that arc may follow them.
-use Rattle.std.proofs.Common.{◌≡◌, ℕ, zero, suc, ◌+◌, ◌<◌, ◌≤◌, min, Bool, true, false, cond, not, ◌&&◌, eqb, ltb, leb, ◌⊎◌, List, [], ◌∷◌, ◌++◌, length, get_or, set, sym, refl, ap, ◌∙◌, subst, inl, inr, arith}
+use Rattle.std.proofs.Common.{◌≡◌, ℕ, zero, suc, ◌<◌, ◌≤◌, min, Bool, true, false, not, ◌&&◌, eqb, ltb, leb, ◌⊎◌, List, [], ◌∷◌, ◌++◌, length, get_or, set, sym, refl, ap, ◌∙◌, inl, inr, arith}
 use Rattle.std.specs.List.{AllByRecursion as All}
 use Rattle.std.proofs.lemmas.List.{get_or-set_same, get_or-set_other, length-set, length_push}
 use Rattle.std.proofs.lemmas.Bool.{and_parts, eqb-true, eqb-false, ltb-true, ltb-false, leb-true, leb-false, not-true, cases_eq}
 use Rattle.records.specs.declared.settings.Heading.{Heading}
 use Rattle.records.specs.Format.{LogArc}
 use Rattle.records.specs.Reading.{arc_stands, one_more, no_targets}
-use Rattle.logs.specs.Lawful.{Any, Stands, Behind, Lawful, BadArc, no_such_core, own_core, no_source_count, no_target_count, target_falls, source_twice, BadEnd, wrong_arcs, too_few_instructions}
+use Rattle.logs.specs.Lawful.{Any, Stands, Behind, Lawful, BadArc, no_such_core, own_core, no_source_count, no_target_count, target_falls, source_twice}
 
 -- all and any, of one arc more
 pub all_push : (P : LogArc → Type 0) (xs : List LogArc) (a : LogArc) → All P xs → P a → All P (xs ++ (a ∷ []))

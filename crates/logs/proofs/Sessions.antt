@@ -1,5 +1,5 @@
 -- What reading all logs says is what the logs are: accepted exactly if they hold, and else the first fault.
-use Rattle.std.proofs.Common.{◌≡◌, ℕ, zero, suc, ◌+◌, ◌-◌, ◌*◌, ◌<◌, ◌≤◌, Bool, true, false, cond, leb, ◌⊎◌, List, [], ◌∷◌, ◌++◌, map, length, get_or, take, drop, set, Ok, Err, Result, sym, refl, ap, ◌∙◌, subst, inl, inr, arith}
+use Rattle.std.proofs.Common.{◌≡◌, ℕ, zero, suc, ◌+◌, ◌*◌, ◌<◌, ◌≤◌, Bool, true, false, cond, leb, ◌⊎◌, List, [], ◌∷◌, ◌++◌, length, get_or, drop, set, Ok, Err, Result, sym, refl, ap, ◌∙◌, subst, inl, inr, arith}
 use Rattle.std.specs.List.{AllByRecursion as All}
 use Rattle.std.proofs.lemmas.List.{get_or-set_same, get_or-set_other, length-set, ext_get_or}
 use Rattle.std.proofs.ByRecursion.{All-take, All-drop}
@@ -7,12 +7,12 @@ use Rattle.std.proofs.lemmas.Bool.{cases_eq, cases_lt, and_parts, leb-true}
 use Rattle.records.specs.declared.settings.Heading.{Heading}
 use Rattle.records.specs.declared.settings.Sizes.{Sizes}
 use Rattle.records.specs.Faults.{Fault, bad_setting, log_fault}
-use Rattle.records.specs.Format.{LogArc, Entry, head, arc, end, written}
+use Rattle.records.specs.Format.{LogArc, Entry, written}
 use Rattle.records.specs.Reading.{broken}
 use Rattle.records.specs.Settings.{fits, log_of, heading_of}
-use Rattle.logs.specs.Lawful.{Holds, Within, LogHolds, Broken, Judged, Accepted, FirstFault, in_log, at_source, Exactly, front, whole}
+use Rattle.logs.specs.Lawful.{Holds, Within, LogHolds, Broken, Judged, Accepted, FirstFault, in_log, at_source, Exactly, front}
 use Rattle.logs.specs.Session.{read_log, hold_log, onward, gathered, tested, session, no_counts, outcome, read_session}
-use Rattle.logs.specs.Walk.{Reading, reading_from, at_front}
+use Rattle.logs.specs.Walk.{Reading}
 use Rattle.logs.proofs.Judging.{read_judged}
 use Rattle.logs.proofs.Paths.{Held, holds_read, holds_held, holds_few}
 

@@ -1,19 +1,19 @@
 -- Logs written out from what was read have their old bytes up to their ends, and nothing else is touched.
-use Rattle.std.proofs.Common.{◌≡◌, ℕ, zero, suc, ◌+◌, ◌-◌, ◌*◌, ◌<◌, ◌≤◌, Bool, true, false, cond, ◌&&◌, ltb, leb, ◌⊎◌, List, [], ◌∷◌, ◌++◌, length, get_or, take, drop, Ok, Err, Result, sym, refl, ap, ◌∙◌, subst, inl, inr, mul-le-mul_right, suc-mul, zero-add, arith}
+use Rattle.std.proofs.Common.{◌≡◌, ℕ, zero, suc, ◌+◌, ◌-◌, ◌*◌, ◌<◌, ◌≤◌, Bool, true, false, cond, ◌&&◌, ltb, leb, List, [], ◌∷◌, ◌++◌, length, get_or, take, drop, Ok, Err, Result, sym, refl, ap, ◌∙◌, subst, inl, inr, mul-le-mul_right, suc-mul, zero-add, arith}
 use Rattle.std.proofs.lemmas.List.{length-append, length-drop, length-take, take_at}
 use Rattle.std.proofs.lemmas.Bool.{and_from, and_parts, lt-ltb, le-leb, leb-true, cases_eq, cases_lt}
 use Rattle.std.specs.List.{AllByRecursion as All}
 use Rattle.records.specs.declared.settings.Sizes.{Sizes}
-use Rattle.records.specs.Faults.{Fault, bad_setting, log_fault}
-use Rattle.records.specs.Format.{LogArc, Entry, bytes_of, written, splice}
+use Rattle.records.specs.Faults.{Fault, bad_setting}
+use Rattle.records.specs.Format.{Entry, bytes_of, written, splice}
 use Rattle.records.specs.Settings.{fits, log_of, heading_of}
 use Rattle.records.specs.Writing.{Wrote, write_at}
 use Rattle.records.proofs.Splices.{splice_none, splice_splice, length_splice, take_front, drop_behind, drop_within, take_within}
-use Rattle.logs.specs.Lawful.{Holds, LogHolds, Accepted, Exactly, whole}
-use Rattle.logs.specs.Session.{read_log, session, outcome, read_session}
+use Rattle.logs.specs.Lawful.{Accepted, whole}
+use Rattle.logs.specs.Session.{read_log, session, outcome}
 use Rattle.logs.proofs.Paths.{holds_read, holds_few}
 use Rattle.logs.proofs.Sessions.{log_octets, few_cores, read_exactly}
-use Rattle.logs.specs.WriteOut.{copied, all_copied, copying, write_session, log_size, Restored}
+use Rattle.logs.specs.WriteOut.{copied, all_copied, copying, write_session, Restored}
 
 -- the loop over the cores
 module _ (store : List ℕ) (z : Sizes) (j : ℕ) (out : List ℕ) where

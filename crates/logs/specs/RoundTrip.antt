@@ -1,5 +1,5 @@
 -- A log that is written by the rules reads back as what was written; a log worked through.
-use Rattle.std.specs.Prelude.{◌≡◌, ℕ, ◌≤◌, List, [], ◌∷◌, ◌++◌, length, Ok, Err}
+use Rattle.std.specs.Prelude.{◌≡◌, ℕ, ◌≤◌, List, [], ◌∷◌, ◌++◌, length, Ok}
 use Rattle.std.specs.List.{AllByRecursion as All}
 use Rattle.records.specs.declared.settings.Heading.{Heading}
 use Rattle.records.specs.Format.{LogArc, written}

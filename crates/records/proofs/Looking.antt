@@ -1,16 +1,15 @@
 -- What is seen at a place of a log: the record was read there, it stands in the bytes, and the rules let it follow.
-use Rattle.std.proofs.Common.{◌≡◌, ℕ, ◌+◌, ◌-◌, ◌<◌, ◌≤◌, min, Bool, true, false, cond, ◌&&◌, ltb, ◌⊎◌, List, [], ◌∷◌, ◌++◌, length, get_or, take, drop, Some, None, Ok, Err, Option, Result, sym, refl, ap, ◌∙◌, inl, inr, arith}
+use Rattle.std.proofs.Common.{◌≡◌, ℕ, ◌+◌, ◌-◌, ◌≤◌, min, Bool, true, false, cond, ltb, List, [], ◌∷◌, length, get_or, take, drop, Some, None, Ok, Err, Result, sym, refl, ap, ◌∙◌, inl, inr, arith}
 use Rattle.std.proofs.lemmas.List.{take_rest, drop_all, length-drop}
-use Rattle.std.proofs.lemmas.Bool.{cases_lt, le-ltb, cond-false}
+use Rattle.std.proofs.lemmas.Bool.{cases_lt}
 use Rattle.records.specs.declared.format.Record.{Record}
 use Rattle.records.specs.declared.faults.ByteFault.{ByteFault}
-use Rattle.records.specs.declared.faults.RecordFault.{RecordFault}
 use Rattle.records.specs.declared.reading.State.{State}
 use Rattle.records.specs.declared.reading.State.TheVariants.{Before, Among, After}
 use Rattle.records.specs.declared.settings.Heading.{Heading}
 use Rattle.records.specs.Format.{Entry, head, arc, end, entry, bytes_of}
-use Rattle.records.specs.Faults.{Fault, byte_fault, record_fault}
-use Rattle.records.specs.Reading.{broken, head_after, arc_after, end_after, marked, entry_at, follows, Sight, passed, judged, seen, sourced, held_at, held, read_as, judged_as, seen_as}
+use Rattle.records.specs.Faults.{Fault, byte_fault}
+use Rattle.records.specs.Reading.{broken, head_after, arc_after, end_after, marked, entry_at, follows, Sight, passed, judged, seen, sourced, held_at, held, read_as}
 
 -- the bytes from the cursor on, as the code cuts them
 pub rest_is : (log : List ℕ) (at from : ℕ) → from ≡ min at (length log) → take (length log - from) (drop from log) ≡ drop at log

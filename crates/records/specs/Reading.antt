@@ -1,5 +1,5 @@
 -- Reading one record of a log, from the bytes that are left and by how far the log was read.
-use Rattle.std.specs.Prelude.{ℕ, ◌+◌, ◌*◌, min, Bool, true, false, cond, not, ◌&&◌, List, [], ◌∷◌, length, drop, Some, None, Ok, Err, Option, Result, ◌==◌, nat_le, nat_lt, slice_index, slice_set}
+use Rattle.std.specs.Prelude.{ℕ, ◌+◌, ◌*◌, min, Bool, cond, not, ◌&&◌, List, [], ◌∷◌, length, drop, Some, None, Ok, Err, Option, Result, ◌==◌, nat_le, nat_lt, slice_index, slice_set}
 use Rattle.records.specs.declared.faults.Refusal.{Refusal}
 use Rattle.records.specs.declared.faults.ByteFault.{ByteFault}
 use Rattle.records.specs.declared.faults.RecordFault.{RecordFault}

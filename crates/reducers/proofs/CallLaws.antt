@@ -1,11 +1,11 @@
 -- What the numbers of each reducer come to over a whole list of calls.
-use Rattle.std.proofs.Common.{◌≡◌, ℕ, ◌≤◌, max, Bool, true, false, cond, ◌&&◌, eqb, List, [], ◌∷◌, MatchBool, sym, refl, ap, ◌∙◌, subst, arith}
+use Rattle.std.proofs.Common.{◌≡◌, ℕ, ◌≤◌, max, Bool, true, false, cond, ◌&&◌, eqb, List, MatchBool, sym, refl, ap, ◌∙◌, subst, arith}
 use Rattle.std.proofs.lemmas.Bool.{eqb-true}
 use Rattle.reducers.specs.Numbers.{Numbers, zeros, ◌⊑◌, core?, cell?, stamp, taken, noted}
 use Rattle.reducers.specs.Rows.{KnownOnly}
 use Rattle.reducers.specs.declared.interface.AccessKind.{AccessKind}
 use Rattle.reducers.specs.declared.interface.AccessKind.TheVariants.{Read, Write}
-use Rattle.reducers.specs.Calls.{Call, takes, notes, Does, Ran, fresh, next, largest, most, KeepAllKnowsNothing, PairwiseKnowsTheLargest, ExactMeetsEveryBound, NoneKnowsMoreThanExact}
+use Rattle.reducers.specs.Calls.{Call, takes, notes, Ran, fresh, next, largest, most, KeepAllKnowsNothing, PairwiseKnowsTheLargest, ExactMeetsEveryBound, NoneKnowsMoreThanExact}
 
 record Holds (calls : List Call) (n : Numbers) : Type 0 where
   knows : (j i : ℕ) → n.known j i ≡ largest calls j i

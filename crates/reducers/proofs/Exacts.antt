@@ -1,8 +1,8 @@
 -- The numbers of the exact reducer after each call.
-use Rattle.std.proofs.Common.{◌≡◌, ℕ, zero, suc, ◌+◌, ◌<◌, ◌≤◌, max, Bool, true, false, cond, ◌&&◌, eqb, List, [], ◌∷◌, length, get_or, set, replicate, sym, refl, ap, ◌∙◌, ap₂}
+use Rattle.std.proofs.Common.{◌≡◌, ℕ, ◌<◌, max, cond, eqb, List, [], ◌∷◌, length, get_or, set, replicate, refl, ap, ◌∙◌}
 use mathlib.Core.Path.{fun_ext}
 use Rattle.reducers.proofs.RowLists.{get_d_set, cond_under, each_replicate}
-use Rattle.reducers.specs.Numbers.{Numbers, zeros, stamp, taken, noted}
+use Rattle.reducers.specs.Numbers.{Numbers, zeros, stamp, taken}
 use Rattle.reducers.specs.Rows.{no_row, no_stamps, row, exact_numbers, stamp_in}
 use Rattle.reducers.specs.declared.rows.Row.{Row}
 use Rattle.reducers.specs.declared.rows.Stamps.{Stamps}

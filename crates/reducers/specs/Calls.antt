@@ -1,5 +1,5 @@
 -- Lists of calls of a reducer since its last reset, and what its numbers come to.
-use Rattle.std.specs.Prelude.{◌≡◌, ℕ, max, Bool, cond, ◌&&◌, List, [], ◌∷◌, MatchBool, ◌==◌}
+use Rattle.std.specs.Prelude.{◌≡◌, ℕ, max, cond, ◌&&◌, List, [], ◌∷◌, MatchBool, ◌==◌}
 use Rattle.reducers.specs.Numbers.{Numbers, zeros, ◌⊑◌, core?, cell?, taken, noted}
 use Rattle.reducers.specs.Rows.{KnownOnly}
 use Rattle.reducers.specs.declared.interface.AccessKind.{AccessKind}

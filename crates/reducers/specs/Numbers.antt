@@ -1,5 +1,5 @@
 -- The numbers of a reducer, and the most that each call may make of them.
-use Rattle.std.specs.Prelude.{ℕ, ◌≤◌, max, Bool, true, false, cond, ◌&&◌, ◌==◌, nat_le, nat_lt}
+use Rattle.std.specs.Prelude.{ℕ, ◌≤◌, max, Bool, cond, ◌&&◌, ◌==◌, nat_le, nat_lt}
 use Rattle.reducers.specs.declared.interface.AccessKind.{AccessKind}
 use Rattle.reducers.specs.declared.interface.AccessKind.TheVariants.{Read, Write}
 

@@ -2,7 +2,7 @@
 use Rattle.std.specs.Prelude.{◌≡◌, ℕ, cond, List, [], get_or, ◌==◌, slice_index, slice_index_or}
 use Rattle.reducers.specs.declared.interface.AccessKind.{AccessKind}
 use Rattle.reducers.specs.declared.interface.AccessKind.TheVariants.{Read, Write}
-use Rattle.reducers.specs.Numbers.{Numbers, zeros}
+use Rattle.reducers.specs.Numbers.{Numbers}
 use Rattle.reducers.specs.declared.rows.Row.{Row}
 use Rattle.reducers.specs.declared.rows.Stamps.{Stamps}
 use Rattle.reducers.specs.declared.exact.Exact.{Exact}

@@ -140,7 +140,7 @@ impl Replayer {
         store: &[u8],
         j: usize,
     ) -> Result<Done, StepRefusal>
-        ensures outcome { record { says = step_numbers result; replayer = self.new; cells = cells.new; states = map state cores.new } ≡ stepped next after text.now self.old cells.old (map state cores.old) store.now j }
+        ensures outcome { record { says = step_numbers result; replayer = self.new; cells = cells.new; states = map K.Core.state cores.new } ≡ stepped K.Core.next K.Core.after text.now self.old cells.old (map K.Core.state cores.old) store.now j }
         ensures others { StepKept result j cores.old cores.new }
         ensures surplus { SurplusKept self.old.sizes cores.old cores.new cells.old cells.new }
     {
@@ -187,7 +187,7 @@ impl Replayer {
         store: &[u8],
     ) -> u32
         requires { self.old.sizes.cores ≤ 4 }
-        ensures circled { session result self.new cells.new (map state cores.new) ≡ circled next after text.now store.now self.old.sizes.cores 0 (session 0 self.old cells.old (map state cores.old)) }
+        ensures circled { session result self.new cells.new (map K.Core.state cores.new) ≡ circled K.Core.next K.Core.after text.now store.now self.old.sizes.cores 0 (session 0 self.old cells.old (map K.Core.state cores.old)) }
         ensures surplus { SurplusKept self.old.sizes cores.old cores.new cells.old cells.new }
     {
         let count = self.sizes.cores;
@@ -208,7 +208,7 @@ impl Replayer {
         cells: &mut [u16],
         store: &[u8],
     ) -> Result<Ended, Refusal>
-        ensures outcome { record { says = run_numbers result; replayer = self.new; cells = cells.new; states = map state cores.new } ≡ ran next after text.now store.now self.old cells.old (map state cores.old) }
+        ensures outcome { record { says = run_numbers result; replayer = self.new; cells = cells.new; states = map K.Core.state cores.new } ≡ ran K.Core.next K.Core.after text.now store.now self.old cells.old (map K.Core.state cores.old) }
         ensures surplus { SurplusKept self.old.sizes cores.old cores.new cells.old cells.new }
     {
         if !buffers_hold(self.sizes, cores.len(), cells.len(), store.len()) {

@@ -138,7 +138,7 @@ logs_are_lawful r N L rec = record {
   conflicts = (good rec).arcs;
   counts = λ a i.
       let k : Conflict r a.source a.target = (good rec).arcs a i in (
-        has_placed r k.0.first a.source k.0.does_first k.0.Placed-first,
+        has_placed r k.0.first a.source k.0.does_first k.0.placed_first,
         has_placed r k.0.second a.target k.0.does_second k.0.placed_second,
       );
   rising = λ j. rising j L (in_order rec);

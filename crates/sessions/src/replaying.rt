@@ -25,8 +25,8 @@ fn take_steps<K: Core>(
     answers: &mut Vec<Result<Done, StepRefusal>>,
 )
     requires { (answers.old.items ≡ []) × (length steps.now ≤ vec_capacity answers.old) }
-    ensures said { map step_numbers answers.new.items ≡ steps_said next after text.now store.now (session 0 replayer.old cells.old (map state cores.old)) steps.now }
-    ensures leaves { stage replayer.new cells.new (map state cores.new) ≡ stage_of (walked next after text.now store.now (session 0 replayer.old cells.old (map state cores.old)) steps.now) }
+    ensures said { map step_numbers answers.new.items ≡ steps_said K.Core.next K.Core.after text.now store.now (session 0 replayer.old cells.old (map K.Core.state cores.old)) steps.now }
+    ensures leaves { stage replayer.new cells.new (map K.Core.state cores.new) ≡ stage_of (walked K.Core.next K.Core.after text.now store.now (session 0 replayer.old cells.old (map K.Core.state cores.old)) steps.now) }
 {
     for j in steps {
         let answer = replayer.step(text, cores, cells, store, *j);
@@ -52,11 +52,11 @@ pub(crate) fn replay<K: Core>(
     answers: &mut Vec<Result<Done, StepRefusal>>,
 ) -> Ends
     requires { (answers.old.items ≡ []) × (length steps.now ≤ vec_capacity answers.old) }
-    ensures opened { done_as result.opened ≡ (first_opening sizes cells.old (map state cores.old) store.now).says }
-    ensures said { map step_numbers answers.new.items ≡ said_by_steps next after text.now store.now sizes cells.old (map state cores.old) steps.now }
-    ensures ended { run_numbers result.ended ≡ (run_behind next after text.now store.now sizes cells.old (map state cores.old) steps.now).says }
-    ensures cells { cells.new ≡ (run_behind next after text.now store.now sizes cells.old (map state cores.old) steps.now).cells }
-    ensures states { map state cores.new ≡ (run_behind next after text.now store.now sizes cells.old (map state cores.old) steps.now).states }
+    ensures opened { done_as result.opened ≡ (first_opening sizes cells.old (map K.Core.state cores.old) store.now).says }
+    ensures said { map step_numbers answers.new.items ≡ said_by_steps K.Core.next K.Core.after text.now store.now sizes cells.old (map K.Core.state cores.old) steps.now }
+    ensures ended { run_numbers result.ended ≡ (run_behind K.Core.next K.Core.after text.now store.now sizes cells.old (map K.Core.state cores.old) steps.now).says }
+    ensures cells { cells.new ≡ (run_behind K.Core.next K.Core.after text.now store.now sizes cells.old (map K.Core.state cores.old) steps.now).cells }
+    ensures states { map K.Core.state cores.new ≡ (run_behind K.Core.next K.Core.after text.now store.now sizes cells.old (map K.Core.state cores.old) steps.now).states }
     ensures octets { All (λ b. b < 256) store.now }
     ensures lengths { (length cells.new ≡ length cells.old) × (length cores.new ≡ length cores.old) }
 {
@@ -78,11 +78,11 @@ pub(crate) fn replay_copies<K: Core>(
     answers: &mut Vec<Result<Done, StepRefusal>>,
 ) -> Ends
     requires { (answers.old.items ≡ []) × (length steps.now ≤ vec_capacity answers.old) }
-    ensures opened { done_as result.opened ≡ (first_opening sizes cells.old.items (map state cores.old.items) store.now).says }
-    ensures said { map step_numbers answers.new.items ≡ said_by_steps next after text.now store.now sizes cells.old.items (map state cores.old.items) steps.now }
-    ensures ended { run_numbers result.ended ≡ (run_behind next after text.now store.now sizes cells.old.items (map state cores.old.items) steps.now).says }
-    ensures cells { cells.new.items ≡ (run_behind next after text.now store.now sizes cells.old.items (map state cores.old.items) steps.now).cells }
-    ensures states { map state cores.new.items ≡ (run_behind next after text.now store.now sizes cells.old.items (map state cores.old.items) steps.now).states }
+    ensures opened { done_as result.opened ≡ (first_opening sizes cells.old.items (map K.Core.state cores.old.items) store.now).says }
+    ensures said { map step_numbers answers.new.items ≡ said_by_steps K.Core.next K.Core.after text.now store.now sizes cells.old.items (map K.Core.state cores.old.items) steps.now }
+    ensures ended { run_numbers result.ended ≡ (run_behind K.Core.next K.Core.after text.now store.now sizes cells.old.items (map K.Core.state cores.old.items) steps.now).says }
+    ensures cells { cells.new.items ≡ (run_behind K.Core.next K.Core.after text.now store.now sizes cells.old.items (map K.Core.state cores.old.items) steps.now).cells }
+    ensures states { map K.Core.state cores.new.items ≡ (run_behind K.Core.next K.Core.after text.now store.now sizes cells.old.items (map K.Core.state cores.old.items) steps.now).states }
     ensures octets { All (λ b. b < 256) store.now }
     ensures lengths { (length cells.new.items ≡ length cells.old.items) × (length cores.new.items ≡ length cores.old.items) }
 {

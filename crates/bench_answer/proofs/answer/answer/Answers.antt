@@ -13,8 +13,8 @@ returns-in-Ok c =
     let input = c.args.input.now in
     let d = c.in-Ok.ensures.answer in
     record {
-      text = made_so c.run-input.result _ _ (λ s h. h ∙ ap (λ o. text_of (answer_lines o)) (sym d)) c.run-input.ensures;
-      bad = made_so c.run-input.result _ _ (λ s h. answers_session input (string_bytes s) (session_of c.in-Ok.described) d h) c.run-input.ensures;
+      text = made_so c.run_input.result _ _ (λ s h. h ∙ ap (λ o. text_of (answer_lines o)) (sym d)) c.run_input.ensures;
+      bad = made_so c.run_input.result _ _ (λ s h. answers_session input (string_bytes s) (session_of c.in-Ok.described) d h) c.run_input.ensures;
     }
 
 pub returns-in-Bad : goal.returns-in-Bad
@@ -22,6 +22,6 @@ returns-in-Bad c =
     let input = c.args.input.now in
     let d : described input ≡ None = subst (λ e. Answers session_of (described input) (Err e)) c.in-Bad.is c.in-Err.ensures.answer in
     record {
-      text = made_so c.from-str.result _ _ (λ s h. h ∙ ap (λ o. text_of (answer_lines o)) (sym d)) c.from-str.ensures.ok;
-      bad = made_so c.from-str.result _ _ (λ s h. answers_bad input (string_bytes s) d h) c.from-str.ensures.ok;
+      text = made_so c.from_str.result _ _ (λ s h. h ∙ ap (λ o. text_of (answer_lines o)) (sym d)) c.from_str.ensures.ok;
+      bad = made_so c.from_str.result _ _ (λ s h. answers_bad input (string_bytes s) d h) c.from_str.ensures.ok;
     }

@@ -11,7 +11,7 @@ use Rattle.bench_answer.proofs.answer.list_session.Goals as goal
 pub unreachable-requires : goal.unreachable-requires
 unreachable-requires g c =
     let a = c.args in
-    let t = c.record-and-replay.new in
+    let t = c.record_and_replay.new in
     let s = g.K.Core.state in
     not_refused s g.R.Reducer.meets (rules g.K.Core.next g.K.Core.after a.text.now) a.sizes a.turns.now []
     (buffers a.cells.now (map s a.cores.now) a.store.now) (buffers t.cells (map s t.cores) t.store) c.in-Err.error c.in-Refused.field-0
@@ -21,10 +21,10 @@ unreachable-requires g c =
 pub returns : goal.returns
 returns g c =
     let a = c.args in
-    let t = c.record-and-replay.new in
+    let t = c.record_and_replay.new in
     let long : length t.store ≡ length a.store.now = omega arith in
     let fit : fits (length t.store) a.sizes ≡ true = ap (λ n. fits n a.sizes) long ∙ (and_parts (fits (length a.store.now) a.sizes) _ c.requires.0).0 in
-    made_so c.list-run.result _ _
+    made_so c.list_run.result _ _
     (λ s h. tells g.R.Reducer.meets (rules g.K.Core.next g.K.Core.after a.text.now) a.sizes a.turns.now _ _ _ c.in-Ok.ensures.outcome.1
-    (length-map a.cores.now g.K.Core.state ∙ c.requires.1.0) c.requires.1.1 fit c.finished-steps.result c.finished-steps.ensures (string_bytes s) h)
-    c.list-run.ensures
+    (length-map a.cores.now g.K.Core.state ∙ c.requires.1.0) c.requires.1.1 fit c.finished_steps.result c.finished_steps.ensures (string_bytes s) h)
+    c.list_run.ensures

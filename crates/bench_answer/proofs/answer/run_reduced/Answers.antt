@@ -13,23 +13,23 @@ use Rattle.bench_answer.proofs.answer.run_reduced.Goals as goal
 pub returns-in-KeepAll : goal.returns-in-KeepAll
 returns-in-KeepAll g c =
     let a = c.args in
-    made_so c.run-session.result _ _
+    made_so c.run_session.result _ _
     (λ s h. told_reduced (λ n _. n ≡ zeros) a.reduction KeepAll c.in-KeepAll.is three_reducers_are_decided.keep_all_logs (rules g.K.Core.next g.K.Core.after a.text.now)
-    (sizes_for (length a.cores.now) a.cell-count) (start (replicate a.cell-count 0) (map g.K.Core.state a.cores.now)) a.turns.now (string_bytes s) h)
-    c.run-session.ensures
+    (sizes_for (length a.cores.now) a.cell_count) (start (replicate a.cell_count 0) (map g.K.Core.state a.cores.now)) a.turns.now (string_bytes s) h)
+    c.run_session.ensures
 
 pub returns-in-Pairwise : goal.returns-in-Pairwise
 returns-in-Pairwise g c =
     let a = c.args in
-    made_so c.run-session-in-Pairwise.result _ _
+    made_so c.run_session-in-Pairwise.result _ _
     (λ s h. told_reduced KnownOnly a.reduction Pairwise c.in-Pairwise.is three_reducers_are_decided.pairwise_logs (rules g.K.Core.next g.K.Core.after a.text.now)
-    (sizes_for (length a.cores.now) a.cell-count) (start (replicate a.cell-count 0) (map g.K.Core.state a.cores.now)) a.turns.now (string_bytes s) h)
-    c.run-session-in-Pairwise.ensures
+    (sizes_for (length a.cores.now) a.cell_count) (start (replicate a.cell_count 0) (map g.K.Core.state a.cores.now)) a.turns.now (string_bytes s) h)
+    c.run_session-in-Pairwise.ensures
 
 pub returns-in-Exact : goal.returns-in-Exact
 returns-in-Exact g c =
     let a = c.args in
-    made_so c.run-session-in-Exact.result _ _
+    made_so c.run_session-in-Exact.result _ _
     (λ s h. told_reduced ◌≡◌ a.reduction Exact c.in-Exact.is three_reducers_are_decided.exact_logs (rules g.K.Core.next g.K.Core.after a.text.now)
-    (sizes_for (length a.cores.now) a.cell-count) (start (replicate a.cell-count 0) (map g.K.Core.state a.cores.now)) a.turns.now (string_bytes s) h)
-    c.run-session-in-Exact.ensures
+    (sizes_for (length a.cores.now) a.cell_count) (start (replicate a.cell_count 0) (map g.K.Core.state a.cores.now)) a.turns.now (string_bytes s) h)
+    c.run_session-in-Exact.ensures

@@ -5,10 +5,10 @@ use Rattle.std.proofs.lemmas.Bool.{cond-true, cond-false, and_left, le-leb, lt-l
 use Rattle.bench_input.specs.Described.{all_bytes}
 use Rattle.bench_input.proofs.reading.bytes_of.Goals as goal
 
-pub returns-in-default : goal.returns-in-default
-returns-in-default c =
+pub returns-in_default : goal.returns-in_default
+returns-in_default c =
     let n = get_or c.args.numbers.now c.loop-n.n-index 0 in
-    let big : 255 < n = ⊎_elim (λ h. absurd (c.in-default.ensures h)) (λ h. omega arith) (cases_lt n 256) in
+    let big : 255 < n = ⊎_elim (λ h. absurd (c.in_default.ensures h)) (λ h. omega arith) (cases_lt n 256) in
     cond-false _ _ _ (c.loop-n.invariant.0 ∙ at_drop_more all_bytes _ _ 0 c.loop-n-test.true ∙ and_left _ _ (lt-leb _ _ big))
 
 pub loop-n-preserved : goal.loop-n-preserved
@@ -16,7 +16,7 @@ loop-n-preserved c =
     let ns = c.args.numbers.now in
     let i = c.loop-n.n-index in
     let small = c.in-Ok.ensures in
-    let pushed = c.in-ok-push.ensures.items in
+    let pushed = c.in_ok-push.ensures.items in
     let longer = take_more ns i 0 c.loop-n-test.true in (
       c.loop-n.invariant.0 ∙ at_drop_more all_bytes ns i 0 c.loop-n-test.true ∙ ap (λ b. b && all_bytes (drop (i + 1) ns)) (le-leb (get_or ns i 0) 255 (omega arith)),
       cc (small.1, c.loop-n.invariant.1),

@@ -12,15 +12,15 @@ loop-record-init c = reading_starts (λ x. string_bytes c.args.out.now ++ log_te
 pub loop-record-smaller : goal.loop-record-smaller
 loop-record-smaller c =
     record_less (view c.loop-record.reader) (view c.next_record.new.self) c.next_record.result c.next_record.ensures
-    (string_bytes c.loop-record.out) c.args.core _ c.loop-record.invariant c.in-Some.record (sym c.unwrap-or.ensures ∙ c.in-Some.is)
+    (string_bytes c.loop-record.out) c.args.core _ c.loop-record.invariant c.in-Some.record (sym c.unwrap_or.ensures ∙ c.in-Some.is)
 
 pub loop-record-preserved : goal.loop-record-preserved
 loop-record-preserved c =
     record_again (view c.loop-record.reader) (view c.next_record.new.self) c.next_record.result c.next_record.ensures
-    (string_bytes c.loop-record.out) c.args.core _ c.loop-record.invariant c.in-Some.record (sym c.unwrap-or.ensures ∙ c.in-Some.is)
-    (string_bytes c.write-record.new.out) c.in-ok-write-record.ensures
+    (string_bytes c.loop-record.out) c.args.core _ c.loop-record.invariant c.in-Some.record (sym c.unwrap_or.ensures ∙ c.in-Some.is)
+    (string_bytes c.write_record.new.out) c.in_ok-write_record.ensures
 
 pub returns : goal.returns
 returns c =
     no_record (view c.loop-record.reader) (view c.next_record.new.self) c.next_record.result c.next_record.ensures
-    (string_bytes c.loop-record.out) c.args.core _ c.loop-record.invariant (sym c.unwrap-or.ensures ∙ c.in-default.is)
+    (string_bytes c.loop-record.out) c.args.core _ c.loop-record.invariant (sym c.unwrap_or.ensures ∙ c.in_default.is)

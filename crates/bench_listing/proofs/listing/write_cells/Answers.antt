@@ -7,7 +7,7 @@ use Rattle.bench_listing.proofs.listing.write_cells.Goals as goal
 pub loop-cell-preserved : goal.loop-cell-preserved
 loop-cell-preserved c =
     one_more (λ ns. spaced (map decimal ns)) (λ n. 32 ∷ decimal n) (λ n ns. refl) refl _ _ _ _ _ 0 c.loop-cell-test.true
-    c.in-ok-write-2.ensures.bytes c.loop-cell.invariant
+    c.in_ok-write-2.ensures.bytes c.loop-cell.invariant
 
 pub returns : goal.returns
 returns c =

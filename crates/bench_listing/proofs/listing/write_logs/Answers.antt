@@ -10,7 +10,7 @@ loop-core-init c = none_written (arcs_logged c.args.store.now c.args.sizes) (str
 pub loop-core-preserved : goal.loop-core-preserved
 loop-core-preserved c =
     log_written (arcs_logged c.args.store.now c.args.sizes) c.loop-core.core (string_bytes c.args.out.now) (string_bytes c.loop-core.out)
-    (string_bytes c.write-log.new.out) c.loop-core.invariant c.in-ok-write-log.ensures
+    (string_bytes c.write_log.new.out) c.loop-core.invariant c.in_ok-write_log.ensures
 
 pub returns : goal.returns
 returns c =

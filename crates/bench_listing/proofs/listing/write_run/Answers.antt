@@ -11,7 +11,7 @@ returns c =
     let cells = cells_line c.args.cells.now in
     let steps = replayed_line c.args.steps in
     let start = string_bytes c.args.out.now in
-    let wrote : string_bytes c.writeln.new.self ≡ string_bytes c.write-cells.new.out ++ text_of (steps ∷ []) = search (rules, append_assoc) in
-    in_turn start (string_bytes c.write-logs.new.out) _ (text_of arcs) (text_of (cells ∷ []) ++ text_of (steps ∷ [])) c.in-ok-write-logs.ensures
-    (in_turn _ _ _ (text_of (cells ∷ [])) (text_of (steps ∷ [])) c.in-ok-write-cells.ensures wrote)
+    let wrote : string_bytes c.writeln.new.self ≡ string_bytes c.write_cells.new.out ++ text_of (steps ∷ []) = search (rules, append_assoc) in
+    in_turn start (string_bytes c.write_logs.new.out) _ (text_of arcs) (text_of (cells ∷ []) ++ text_of (steps ∷ [])) c.in_ok-write_logs.ensures
+    (in_turn _ _ _ (text_of (cells ∷ [])) (text_of (steps ∷ [])) c.in_ok-write_cells.ensures wrote)
     ∙ ap (λ l. start ++ l) (ap (λ l. text_of arcs ++ l) (sym (text_append (cells ∷ []) (steps ∷ []))) ∙ sym (text_append arcs (cells ∷ steps ∷ [])))

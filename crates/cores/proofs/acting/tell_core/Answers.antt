@@ -7,8 +7,8 @@ pub returns-then-j-cores : goal.returns-then-j-cores
 returns-then-j-cores g c =
     record {
       states = tells g.K.Core.state c.args.text.now c.args.cores.now c.args.j g.K.Core.after c.args.number c.if-j-cores.true
-          c.index-cores-j.result c.index-cores-j.is c.told-copy.result c.told-copy.ensures;
-      others = others_kept c.args.cores.now c.args.j c.told-copy.result;
+          c.index-cores-j.result c.index-cores-j.is c.told_copy.result c.told_copy.ensures;
+      others = others_kept c.args.cores.now c.args.j c.told_copy.result;
     }
 
 pub returns-else-j-cores : goal.returns-else-j-cores

@@ -9,5 +9,5 @@ pub returns : goal.returns
 returns c =
     log_listed c.args.store.now c.args.sizes c.args.core (view c.in-Ok.reader)
     (new_reader c.args.store.now c.args.sizes c.args.core c.in-Ok.reader c.in-Ok.ensures)
-    (string_bytes c.args.out.now) (string_bytes c.writeln.new.self) (string_bytes c.write-records.new.out) c.in-ok-write-records.field-0
-    c.in-ok-writeln.ensures.bytes c.in-ok-write-records.ensures
+    (string_bytes c.args.out.now) (string_bytes c.writeln.new.self) (string_bytes c.write_records.new.out) c.in_ok-write_records.field-0
+    c.in_ok-writeln.ensures.bytes c.in_ok-write_records.ensures

@@ -11,21 +11,21 @@ loop-line-init c = reading_starts (listed (string_bytes c.args.out.now) c.args.c
 
 pub loop-line-smaller : goal.loop-line-smaller
 loop-line-smaller c =
-    line_less (view c.loop-line.reader) (view c.next-line.new.reader) c.next-line.ensures.after (string_bytes c.loop-line.out) c.args.core _ c.loop-line.invariant
+    line_less (view c.loop-line.reader) (view c.next_line.new.reader) c.next_line.ensures.after (string_bytes c.loop-line.out) c.args.core _ c.loop-line.invariant
     c.in-Line.line.core c.in-Line.line.offset (entry c.in-Line.line.«record») c.in-Line.ensures.says
 
 pub loop-line-preserved : goal.loop-line-preserved
 loop-line-preserved c =
-    line_again (view c.loop-line.reader) (view c.next-line.new.reader) c.next-line.ensures.after (string_bytes c.loop-line.out) c.args.core _ c.loop-line.invariant
+    line_again (view c.loop-line.reader) (view c.next_line.new.reader) c.next_line.ensures.after (string_bytes c.loop-line.out) c.args.core _ c.loop-line.invariant
     c.in-Line.line.core c.in-Line.line.offset (entry c.in-Line.line.«record») c.in-Line.ensures.says
-    (string_bytes c.writeln.new.self) c.in-ok-writeln.ensures.bytes
+    (string_bytes c.writeln.new.self) c.in_ok-writeln-in-Line.ensures.bytes
 
 pub returns-in-End : goal.returns-in-End
 returns-in-End c =
-    end_told (view c.loop-line.reader) (view c.next-line.new.reader) c.next-line.ensures.after (string_bytes c.loop-line.out) c.args.core _ c.loop-line.invariant
+    end_told (view c.loop-line.reader) (view c.next_line.new.reader) c.next_line.ensures.after (string_bytes c.loop-line.out) c.args.core _ c.loop-line.invariant
     c.in-End.ensures.says
 
 pub returns-in-Fault : goal.returns-in-Fault
 returns-in-Fault c =
-    fault_told (view c.loop-line.reader) (view c.next-line.new.reader) c.next-line.ensures.after (string_bytes c.loop-line.out) c.args.core _ c.loop-line.invariant
+    fault_told (view c.loop-line.reader) (view c.next_line.new.reader) c.next_line.ensures.after (string_bytes c.loop-line.out) c.args.core _ c.loop-line.invariant
     c.in-Fault.ensures.says

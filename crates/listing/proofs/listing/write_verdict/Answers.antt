@@ -3,12 +3,12 @@ use Rattle.std.proofs.Common.{◌≡◌, ◌++◌, string_bytes, append_assoc, r
 use Rattle.listing.specs.Listing.{bad_sizes}
 use Rattle.listing.proofs.listing.write_verdict.Goals as goal
 
-bad_sizes_written : (c : goal.In-ok-writeln-2) → string_bytes c.writeln-in-Err-BadSetting.new.self ≡ string_bytes c.args.out.now ++ bad_sizes
+bad_sizes_written : (c : goal.In_ok-writeln-in-Err-BadSetting) → string_bytes c.writeln-in-Err-BadSetting.new.self ≡ string_bytes c.args.out.now ++ bad_sizes
 unfolding bad_sizes
-bad_sizes_written c = c.in-ok-writeln-2.ensures.bytes
+bad_sizes_written c = c.in_ok-writeln-in-Err-BadSetting.ensures.bytes
 
-pub returns-in-ok-writeln-2 : goal.returns-in-ok-writeln-2
-returns-in-ok-writeln-2 c = let h = bad_sizes_written c in search rules
+pub returns-in_ok-writeln-in-Err-BadSetting : goal.returns-in_ok-writeln-in-Err-BadSetting
+returns-in_ok-writeln-in-Err-BadSetting c = let h = bad_sizes_written c in search rules
 
-pub returns-in-ok-writeln-3 : goal.returns-in-ok-writeln-3
-returns-in-ok-writeln-3 c = search (rules, append_assoc)
+pub returns-in_ok-writeln-in-Err-LogFault : goal.returns-in_ok-writeln-in-Err-LogFault
+returns-in_ok-writeln-in-Err-LogFault c = search (rules, append_assoc)

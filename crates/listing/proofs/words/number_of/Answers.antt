@@ -3,11 +3,11 @@ use Rattle.std.proofs.Common.{sym, ◌∙◌, rules}
 use Rattle.listing.proofs.Digits.{digit_more, digit_bad, digits_end}
 use Rattle.listing.proofs.words.number_of.Goals as goal
 
-pub returns-in-err-n : goal.returns-in-err-n
-returns-in-err-n c = c.from-residual.ensures ∙ sym (digit_bad _ _ _ c.loop-b.invariant c.loop-b-test.true (sym c.in-err-n.ensures))
+pub returns-in_err-n : goal.returns-in_err-n
+returns-in_err-n c = c.from_residual.ensures ∙ sym (digit_bad _ _ _ c.loop-b.invariant c.loop-b-test.true (sym c.in_err-n.ensures))
 
 pub loop-b-preserved : goal.loop-b-preserved
-loop-b-preserved c = digit_more _ _ _ c.loop-b.invariant _ c.loop-b-test.true (sym c.in-ok-n.ensures)
+loop-b-preserved c = digit_more _ _ _ c.loop-b.invariant _ c.loop-b-test.true (sym c.in_ok-n.ensures)
 
 pub returns : goal.returns
 returns c = digits_end _ _ _ c.loop-b.invariant (search rules) c.loop-b-test.false

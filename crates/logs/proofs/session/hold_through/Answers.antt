@@ -1,4 +1,4 @@
-use Rattle.std.proofs.Common.{◌≡◌, Ok, Err, sym, refl, ap, ◌∙◌}
+use Rattle.std.proofs.Common.{Ok, Err, refl, ap, ◌∙◌}
 use Rattle.std.proofs.lemmas.Result.{err_from_is_err_and}
 use Rattle.records.specs.Faults.{session_fault}
 use Rattle.records.specs.Format.{entry}
@@ -10,26 +10,26 @@ use Rattle.logs.proofs.session.hold_through.Goals as goal
 pub loop-init : goal.loop-init
 loop-init c = holding_starts (λ x. x.verdict) c.args.counts.now (view c.args.from)
 
-pub returns-in-err-next-held : goal.returns-in-err-next-held
-returns-in-err-next-held c =
-    let p = err_from_is_err_and c.from-residual.result c.from-residual.ensures.1 in
+pub returns-in_err-next_held : goal.returns-in_err-next_held
+returns-in_err-next_held c =
+    let p = err_from_is_err_and c.from_residual.result c.from_residual.ensures.1 in
     ap held_as (p.1 ∙ ap Err p.2)
     ∙ round_fault (look_held c.args.counts.now) (held_look_fits c.args.counts.now) (view c.loop.reader) (view c.next_held.new.self) (held_said c.next_held.result) c.next_held.ensures
-    (λ x. x.verdict) (holding_from c.args.counts.now (view c.args.from)).verdict c.loop.invariant (session_fault c.in-err-next-held.field-0.0) (ap held_said c.in-err-next-held.was)
+    (λ x. x.verdict) (holding_from c.args.counts.now (view c.args.from)).verdict c.loop.invariant (session_fault c.in_err-next_held.field-0.0) (ap held_said c.in_err-next_held.was)
 
 pub loop-smaller : goal.loop-smaller
 loop-smaller c =
     round_less (look_held c.args.counts.now) (held_look_fits c.args.counts.now) (view c.loop.reader) (view c.next_held.new.self) (held_said c.next_held.result) c.next_held.ensures
-    (entry c.in-Some.field-0) (ap held_said (c.in-ok-next-held.was ∙ ap Ok c.in-Some.is))
+    (entry c.in-Some.field-0) (ap held_said (c.in_ok-next_held.was ∙ ap Ok c.in-Some.is))
 
 pub loop-preserved : goal.loop-preserved
 loop-preserved c =
     round_again (look_held c.args.counts.now) (held_look_fits c.args.counts.now) (view c.loop.reader) (view c.next_held.new.self) (held_said c.next_held.result) c.next_held.ensures
     (λ x. x.verdict) (holding_from c.args.counts.now (view c.args.from)).verdict c.loop.invariant
-    (entry c.in-Some.field-0) (ap held_said (c.in-ok-next-held.was ∙ ap Ok c.in-Some.is)) (λ x. x.verdict) (λ x. refl)
+    (entry c.in-Some.field-0) (ap held_said (c.in_ok-next_held.was ∙ ap Ok c.in-Some.is)) (λ x. x.verdict) (λ x. refl)
 
 pub returns : goal.returns
 returns c =
     ap Ok c.instructions.ensures
     ∙ round_none (look_held c.args.counts.now) (held_look_fits c.args.counts.now) (view c.loop.reader) (view c.next_held.new.self) (held_said c.next_held.result) c.next_held.ensures
-    (λ x. x.verdict) (holding_from c.args.counts.now (view c.args.from)).verdict c.loop.invariant (ap held_said (c.in-ok-next-held.was ∙ ap Ok c.in-default.is))
+    (λ x. x.verdict) (holding_from c.args.counts.now (view c.args.from)).verdict c.loop.invariant (ap held_said (c.in_ok-next_held.was ∙ ap Ok c.in_default.is))

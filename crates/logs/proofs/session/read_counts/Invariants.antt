@@ -1,5 +1,5 @@
 use Rattle.std.proofs.Common.{◌≡◌, ◌-◌, length}
-use Rattle.logs.specs.Session.{gathered, no_counts, outcome}
+use Rattle.logs.specs.Session.{gathered, no_counts}
 use Rattle.logs.proofs.session.read_counts.Given as goal
 
 abbrev pub invariant-loop-core : goal.invariant-loop-core

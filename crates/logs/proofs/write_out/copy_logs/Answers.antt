@@ -1,6 +1,5 @@
 -- What is copied and what is still to be copied make the whole.
 use Rattle.std.proofs.Common.{◌≡◌, sym, refl, ap, ◌∙◌}
-use Rattle.records.specs.Reading.{view}
 use Rattle.logs.specs.Walk.{reading_from}
 use Rattle.logs.specs.WriteOut.{copied, all_copied}
 use Rattle.logs.proofs.Cores.{new_reader}
@@ -12,9 +11,9 @@ loop-core-preserved c =
     let store = c.args.store.now in
     let z = c.args.sizes in
     let j = c.loop-core.core in
-    let v = new_reader store z j c.in-ok-reader.reader c.in-ok-reader.ensures in
-    let here : c.copy-records.new.out ≡ copied z j 0 (reading_from _).entries c.loop-core.out =
-    c.copy-records.ensures ∙ ap (λ v. copied z j v.cursor (reading_from v).entries c.loop-core.out) v in
+    let v = new_reader store z j c.in_ok-reader.reader c.in_ok-reader.ensures in
+    let here : c.copy_records.new.out ≡ copied z j 0 (reading_from _).entries c.loop-core.out =
+    c.copy_records.ensures ∙ ap (λ v. copied z j v.cursor (reading_from v).entries c.loop-core.out) v in
     ap (all_copied store z _ _) here ∙ sym (copied_more store z j c.loop-core.out c.loop-core-test.true) ∙ c.loop-core.invariant
 
 pub returns : goal.returns

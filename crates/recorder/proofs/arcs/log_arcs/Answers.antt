@@ -15,16 +15,17 @@ loop-candidate-init g c =
     let a = c.args in
     (omega arith, omega arith, logged_none m.meets a.sizes a.cell a.by (m.numbers a.reducer.now) a.tail a.store.now)
 
-pub log-one-tail-requires : goal.log-one-tail-requires
-log-one-tail-requires g c =
+pub log_one-tail-requires : goal.log_one-tail-requires
+log_one-tail-requires g c =
     let xs = c.args.candidates in
     let i = c.loop-candidate.candidate-index in
     let three : length xs ≡ 3 = search rules in
     let within : i < length xs = omega arith in
-    let more = at_drop_more present xs i None within in (
-      (ap (λ k. fits k c.args.sizes) c.loop-candidate.auto.store ∙ c.requires.0.0, c.requires.0.1),
-      (omega (arith, c.loop-candidate.invariant.0, more, c.requires.1.0), omega (arith, c.loop-candidate.invariant.1, c.requires.1.1)),
-    )
+    let more = at_drop_more present xs i None within in
+    record {
+      sizes_value = (ap (λ k. fits k c.args.sizes) c.loop-candidate.auto.store ∙ c.requires.sizes_value.0, c.requires.sizes_value.1);
+      candidate_bound = (omega (arith, c.loop-candidate.invariant.0, more, c.requires.candidates_bound.0), omega (arith, c.loop-candidate.invariant.1, c.requires.candidates_bound.1));
+    }
 
 pub loop-candidate-preserved : goal.loop-candidate-preserved
 loop-candidate-preserved g c =
@@ -37,16 +38,16 @@ loop-candidate-preserved g c =
     let within : i < length xs = omega arith in
     let more = at_drop_more present xs i None within in
     let few = fresh_few a.by (m.numbers l.reducer) (get_or xs i None) in
-    let offset = ap (λ (t : Tail). t.offset) c.log-one-tail.ensures.tail in
-    let arcs = ap (λ (t : Tail). t.arcs) c.log-one-tail.ensures.tail in
+    let offset = ap (λ (t : Tail). t.offset) c.log_one-tail.ensures.tail in
+    let arcs = ap (λ (t : Tail). t.arcs) c.log_one-tail.ensures.tail in
     let single = one_le (get_or xs i None) in
-    let inside = log_room (length a.store.now) a.sizes a.by.core c.requires.0.0 c.requires.0.1 in
-    let room : a.by.core * a.sizes.log_bytes + a.tail.offset ≤ length a.store.now = omega (arith, inside, c.requires.1.0) in (
+    let inside = log_room (length a.store.now) a.sizes a.by.core c.requires.sizes_value.0 c.requires.sizes_value.1 in
+    let room : a.by.core * a.sizes.log_bytes + a.tail.offset ≤ length a.store.now = omega (arith, inside, c.requires.candidates_bound.0) in (
       omega (arith, l.invariant.0, more, offset, few.0, few.1),
       omega (arith, l.invariant.1, arcs, few.1, single),
-      logged_more m.meets a.sizes a.cell a.by (m.numbers a.reducer.now) (m.numbers l.reducer) (m.numbers c.log-one-tail.new.reducer)
-          xs i None a.tail l.tail c.log-one-tail.result a.store.now l.store c.log-one-tail.new.store
-          within room l.invariant.2 c.log-one-tail.ensures.judged c.log-one-tail.ensures.bytes c.log-one-tail.ensures.tail,
+      logged_more m.meets a.sizes a.cell a.by (m.numbers a.reducer.now) (m.numbers l.reducer) (m.numbers c.log_one-tail.new.reducer)
+          xs i None a.tail l.tail c.log_one-tail.result a.store.now l.store c.log_one-tail.new.store
+          within room l.invariant.2 c.log_one-tail.ensures.judged c.log_one-tail.ensures.bytes c.log_one-tail.ensures.tail,
     )
 
 pub returns : goal.returns

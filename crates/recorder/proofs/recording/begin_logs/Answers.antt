@@ -8,7 +8,7 @@ pub loop-core-preserved : goal.loop-core-preserved
 loop-core-preserved c =
     let z = c.args.sizes in
     let i = c.loop-core.core in
-    ap (headed_from z (z.cores - (i + 1)) (i + 1)) c.begin-log.ensures
+    ap (headed_from z (z.cores - (i + 1)) (i + 1)) c.begin_log.ensures
     ∙ sym (headed_more z z.cores i c.loop-core.store c.loop-core-test.true)
     ∙ c.loop-core.invariant
 

@@ -7,76 +7,76 @@ use Rattle.records.specs.Settings.{fits, log_of, heading_of}
 use Rattle.replayer.specs.Groups.{arc_seen, arc_as, at_place, group_at, held_up, read_group, group_as, log_arc, StandsBehind}
 use Rattle.replayer.proofs.Readings.{Reading, arc_fits, reading_fault, reading_none, reading_other, reading_more, reading_starts, refused_if, resumes, whole_group}
 use Rattle.replayer.proofs.group.read_group.Goals as goal
-use Rattle.replayer.proofs.group.read_group.Goals.{In-ok-reader, In-Some}
+use Rattle.replayer.proofs.group.read_group.Goals.{In_ok-reader, In-Some}
 
 -- the reader stands at the place
-placed : (c : In-ok-reader) → (fits (length c.args.store.now) c.args.sizes && ltb c.args.core c.args.sizes.cores ≡ true)
-    × (view c.in-ok-reader.reader ≡ at_place (heading_of c.args.sizes c.args.core) (log_of c.args.store.now c.args.sizes c.args.core) c.args.place)
-placed c = resumes c.args.store.now c.args.sizes c.args.core c.args.place c.in-ok-reader.reader c.in-ok-reader.ensures
+placed : (c : In_ok-reader) → (fits (length c.args.store.now) c.args.sizes && ltb c.args.core c.args.sizes.cores ≡ true)
+    × (view c.in_ok-reader.reader ≡ at_place (heading_of c.args.sizes c.args.core) (log_of c.args.store.now c.args.sizes c.args.core) c.args.place)
+placed c = resumes c.args.store.now c.args.sizes c.args.core c.args.place c.in_ok-reader.reader c.in_ok-reader.ensures
 
 -- what its log gives is what the core's log gives
-whole : (c : In-ok-reader) →
-    held_up c.args.done.now None (group_at c.args.counts.now c.in-ok-reader.reader.heading c.in-ok-reader.reader.log.now (get_or c.args.done.now c.args.core 0 + 1) c.args.place)
+whole : (c : In_ok-reader) →
+    held_up c.args.done.now None (group_at c.args.counts.now c.in_ok-reader.reader.heading c.in_ok-reader.reader.log.now (get_or c.args.done.now c.args.core 0 + 1) c.args.place)
     ≡ read_group c.args.store.now c.args.sizes c.args.core c.args.place c.args.counts.now c.args.done.now
 whole c =
     whole_group c.args.store.now c.args.sizes c.args.core c.args.place c.args.counts.now c.args.done.now
-    (view c.in-ok-reader.reader) (placed c).0 (placed c).1
+    (view c.in_ok-reader.reader) (placed c).0 (placed c).1
 
 -- what stood at the place behind the arcs so far
-saw : (c : In-Some) → arc_seen c.args.counts.now (at_place c.in-ok-reader.reader.heading c.in-ok-reader.reader.log.now c.loop-arc.behind) ≡ Ok (Some (log_arc c.in-Some.arc, c.in-Some.arc.behind))
-saw c = ap (arc_seen c.args.counts.now) (sym c.loop-arc.invariant.1) ∙ sym c.next-arc.ensures.arc ∙ ap arc_as (c.in-ok-arc.was ∙ ap Ok c.in-Some.is)
+saw : (c : In-Some) → arc_seen c.args.counts.now (at_place c.in_ok-reader.reader.heading c.in_ok-reader.reader.log.now c.loop-arc.behind) ≡ Ok (Some (log_arc c.in-Some.arc, c.in-Some.arc.behind))
+saw c = ap (arc_seen c.args.counts.now) (sym c.loop-arc.invariant.1) ∙ sym c.next_arc.ensures.arc ∙ ap arc_as (c.in_ok-arc.was ∙ ap Ok c.in-Some.is)
 
-pub returns-in-err-reader : goal.returns-in-err-reader
+pub returns-in_err-reader : goal.returns-in_err-reader
 unfolding read_group
-returns-in-err-reader c =
-    let p = err_from_is_err_and c.from-residual.result c.from-residual.ensures.1 in
+returns-in_err-reader c =
+    let p = err_from_is_err_and c.from_residual.result c.from_residual.ensures.1 in
     let a = c.args in
     ap group_as (p.1 ∙ ap Err p.2)
     ∙ refused_if a.store.now a.sizes a.core a.place (fits (length a.store.now) a.sizes && ltb a.core a.sizes.cores)
-    (refusal c.in-err-reader.field-0.0) (at_place (heading_of a.sizes a.core) (log_of a.store.now a.sizes a.core) a.place) _ c.in-err-reader.ensures
+    (refusal c.in_err-reader.field-0.0) (at_place (heading_of a.sizes a.core) (log_of a.store.now a.sizes a.core) a.place) _ c.in_err-reader.ensures
 
 pub loop-arc-init : goal.loop-arc-init
 loop-arc-init c =
-    let q = (placed (goal.at.loop-arc-init c).In-ok-reader).1 in
-    let r = c.in-ok-reader.reader in (
+    let q = (placed (goal.at.loop-arc-init c).In_ok-reader).1 in
+    let r = c.in_ok-reader.reader in (
       reading_starts c.args.counts.now r.heading r.log.now c.args.done.now (get_or c.args.done.now c.args.core 0 + 1) c.args.place,
       (λ i. record { heading = r.heading; log = r.log.now; cursor = (q i).cursor; state = (q i).state }),
     )
 
-pub returns-in-err-arc : goal.returns-in-err-arc
-returns-in-err-arc c =
-    let p = err_from_is_err_and c.from-residual-in-err-arc.result c.from-residual-in-err-arc.ensures.1 in
+pub returns-in_err-arc : goal.returns-in_err-arc
+returns-in_err-arc c =
+    let p = err_from_is_err_and c.from_residual-in_err-arc.result c.from_residual-in_err-arc.ensures.1 in
     let a = c.args in
-    let r = c.in-ok-reader.reader in
+    let r = c.in_ok-reader.reader in
     ap group_as (p.1 ∙ ap Err p.2)
     ∙ reading_fault a.counts.now r.heading r.log.now a.done.now _ _ c.loop-arc.behind c.loop-arc.waits c.loop-arc.invariant.0
-    (session_fault c.in-err-arc.field-0.0) (ap (arc_seen a.counts.now) (sym c.loop-arc.invariant.1) ∙ sym c.in-err-arc.ensures.arc)
-    ∙ whole (goal.at.returns-in-err-arc c).In-ok-reader
+    (session_fault c.in_err-arc.field-0.0) (ap (arc_seen a.counts.now) (sym c.loop-arc.invariant.1) ∙ sym c.in_err-arc.ensures.arc)
+    ∙ whole (goal.at.returns-in_err-arc c).In_ok-reader
 
 -- the reader that read an arc stands behind it
-on : (c : In-Some) → view c.next-arc.new.reader ≡ at_place c.in-ok-reader.reader.heading c.in-ok-reader.reader.log.now c.in-Some.arc.behind
+on : (c : In-Some) → view c.next_arc.new.reader ≡ at_place c.in_ok-reader.reader.heading c.in_ok-reader.reader.log.now c.in-Some.arc.behind
 on c =
-    subst (λ r. StandsBehind r (view c.loop-arc.reader) (view c.next-arc.new.reader)) (c.in-ok-arc.was ∙ ap Ok c.in-Some.is) c.next-arc.ensures.behind
+    subst (λ r. StandsBehind r (view c.loop-arc.reader) (view c.next_arc.new.reader)) (c.in_ok-arc.was ∙ ap Ok c.in-Some.is) c.next_arc.ensures.behind
     ∙ ap (λ v. at_place v.heading v.log c.in-Some.arc.behind) c.loop-arc.invariant.1
 
 pub loop-arc-smaller : goal.loop-arc-smaller
 loop-arc-smaller c =
     let w = (goal.at.loop-arc-smaller c).In-Some in
     let q = saw w in
-    let f = arc_fits c.args.counts.now (at_place c.in-ok-reader.reader.heading c.in-ok-reader.reader.log.now c.loop-arc.behind) (log_arc c.in-Some.arc) c.in-Some.arc.behind q in
+    let f = arc_fits c.args.counts.now (at_place c.in_ok-reader.reader.heading c.in_ok-reader.reader.log.now c.loop-arc.behind) (log_arc c.in-Some.arc) c.in-Some.arc.behind q in
     let old = c.loop-arc.invariant.1 in
-    let log : length c.loop-arc.reader.log.now ≡ length c.in-ok-reader.reader.log.now = ap (λ v. length v.log) old in
+    let log : length c.loop-arc.reader.log.now ≡ length c.in_ok-reader.reader.log.now = ap (λ v. length v.log) old in
     let at : c.loop-arc.reader.cursor ≡ c.loop-arc.behind.offset = ap (λ v. v.cursor) old in
-    let log' : length c.next-arc.new.reader.log.now ≡ length c.in-ok-reader.reader.log.now = ap (λ v. length v.log) (on w) in
-    let at' : c.next-arc.new.reader.cursor ≡ c.in-Some.arc.behind.offset = ap (λ v. v.cursor) (on w) in
+    let log' : length c.next_arc.new.reader.log.now ≡ length c.in_ok-reader.reader.log.now = ap (λ v. length v.log) (on w) in
+    let at' : c.next_arc.new.reader.cursor ≡ c.in-Some.arc.behind.offset = ap (λ v. v.cursor) (on w) in
     omega (arith, f.0, f.1)
 
 pub loop-arc-preserved : goal.loop-arc-preserved
 loop-arc-preserved c =
     let w = (goal.at.loop-arc-preserved c).In-Some in
     let a = c.args in
-    let r = c.in-ok-reader.reader in (
-      subst (Reading a.counts.now r.heading r.log.now a.done.now _ _ c.in-Some.arc.behind) (sym c.first-wait-waits.ensures)
+    let r = c.in_ok-reader.reader in (
+      subst (Reading a.counts.now r.heading r.log.now a.done.now _ _ c.in-Some.arc.behind) (sym c.first_wait-waits.ensures)
           (reading_more a.counts.now r.heading r.log.now a.done.now _ _ c.loop-arc.behind c.loop-arc.waits c.loop-arc.invariant.0
           (log_arc c.in-Some.arc) c.in-Some.arc.behind (saw w) c.if-arc-next.false),
       on w,
@@ -85,15 +85,15 @@ loop-arc-preserved c =
 pub returns-then-arc-next : goal.returns-then-arc-next
 returns-then-arc-next c =
     let a = c.args in
-    let r = c.in-ok-reader.reader in
+    let r = c.in_ok-reader.reader in
     reading_other a.counts.now r.heading r.log.now a.done.now _ _ c.loop-arc.behind c.loop-arc.waits c.loop-arc.invariant.0
     (log_arc c.in-Some.arc) c.in-Some.arc.behind (saw (goal.at.returns-then-arc-next c).In-Some) c.if-arc-next.true
-    ∙ whole (goal.at.returns-then-arc-next c).In-ok-reader
+    ∙ whole (goal.at.returns-then-arc-next c).In_ok-reader
 
-pub returns-in-default : goal.returns-in-default
-returns-in-default c =
+pub returns-in_default : goal.returns-in_default
+returns-in_default c =
     let a = c.args in
-    let r = c.in-ok-reader.reader in
+    let r = c.in_ok-reader.reader in
     reading_none a.counts.now r.heading r.log.now a.done.now _ _ c.loop-arc.behind c.loop-arc.waits c.loop-arc.invariant.0
-    (ap (arc_seen a.counts.now) (sym c.loop-arc.invariant.1) ∙ sym c.next-arc.ensures.arc ∙ ap arc_as (c.in-ok-arc.was ∙ ap Ok c.in-default.is))
-    ∙ whole (goal.at.returns-in-default c).In-ok-reader
+    (ap (arc_seen a.counts.now) (sym c.loop-arc.invariant.1) ∙ sym c.next_arc.ensures.arc ∙ ap arc_as (c.in_ok-arc.was ∙ ap Ok c.in_default.is))
+    ∙ whole (goal.at.returns-in_default c).In_ok-reader

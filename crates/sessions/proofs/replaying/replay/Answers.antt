@@ -27,14 +27,14 @@ returns g c =
     let opening : ◌≡◌ {A = Opened} (record { says = done_as c.open-opened.result; replayer = c.open-opened.new.self }) (first_opening a.sizes cells states store) =
     c.open-opened.ensures.outcome ∙ (λ i. reopened (c.new-replayer.ensures i) a.sizes (sym (length-map cores g.K.Core.state) i) (length cells) store) in
     let first = ap (λ (o : Opened). o.replayer) opening in
-    let left = c.take-steps.ensures.leaves ∙ ap (λ (R : Replayer). stage_of (walked next after text store (session 0 R cells states) steps)) first in
+    let left = c.take_steps.ensures.leaves ∙ ap (λ (R : Replayer). stage_of (walked next after text store (session 0 R cells states) steps)) first in
     let run = c.run-ended.ensures.outcome ∙ ap (λ (b : Stage). ran next after text store b.replayer b.cells b.states) left in
     record {
       opened = ap (λ (o : Opened). o.says) opening;
-      said = c.take-steps.ensures.said ∙ ap (λ (R : Replayer). steps_said next after text store (session 0 R cells states) steps) first;
+      said = c.take_steps.ensures.said ∙ ap (λ (R : Replayer). steps_said next after text store (session 0 R cells states) steps) first;
       ended = ap (λ (o : Outcome). o.says) run;
       cells = ap (λ (o : Outcome). o.cells) run;
       states = ap (λ (o : Outcome). o.states) run;
-      octets = All-from_get_or (λ b. b < 256) store 0 (λ i _. Fits-lt-pow (c.type-inv.store i));
+      octets = All-from_get_or (λ b. b < 256) store 0 (λ i _. Fits-lt-pow (c.type_inv.store i));
       lengths = (omega arith, omega arith);
     }

@@ -15,10 +15,10 @@ returns g c =
     let store = a.store.now in
     let steps = a.steps.now in
     let e = c.replay.ensures in
-    let cores = c.as-mut-slice.ensures.value in
-    let cells = c.as-mut-slice-2.ensures.value in
-    let many_cells : length c.replay.new.cells ≡ a.cells.now.len = omega (arith, c.as-mut-slice-2.ensures.len) in
-    let many_cores : length c.replay.new.cores ≡ a.cores.now.len = omega (arith, c.as-mut-slice.ensures.len) in
+    let cores = c.as_mut_slice.ensures.value in
+    let cells = c.as_mut_slice-2.ensures.value in
+    let many_cells : length c.replay.new.cells ≡ a.cells.now.len = omega (arith, c.as_mut_slice-2.ensures.len) in
+    let many_cores : length c.replay.new.cores ≡ a.cores.now.len = omega (arith, c.as_mut_slice.ensures.len) in
     let same_cells = with_items_is a.cells.now c.replay.new.cells many_cells in
     let same_cores = with_items_is a.cores.now c.replay.new.cores many_cores in
     record {

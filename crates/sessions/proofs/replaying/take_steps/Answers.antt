@@ -20,11 +20,11 @@ loop-j-preserved g c =
     let s = g.K.Core.state in
     let l = c.loop-j in
     let t = c.step-answer.new in (
-      omega (arith, l.invariant.0, c.push-reserved.ensures.len),
-      omega (arith, l.invariant.1, c.push-reserved.ensures.capacity),
+      omega (arith, l.invariant.0, c.push_reserved.ensures.len),
+      omega (arith, l.invariant.1, c.push_reserved.ensures.capacity),
       goes_on g.K.Core.next g.K.Core.after a.text.now a.store.now (session 0 a.replayer.now a.cells.now (map s a.cores.now)) a.steps.now
-          l.j-index (vec_items l.answers) (vec_items c.push-reserved.new.self) c.step-answer.result l.replayer t.self l.cells t.cells (map s l.cores) (map s t.cores)
-          c.loop-j-test.true l.invariant.2 c.step-answer.ensures.outcome c.push-reserved.ensures.items,
+          l.j-index (vec_items l.answers) (vec_items c.push_reserved.new.self) c.step-answer.result l.replayer t.self l.cells t.cells (map s l.cores) (map s t.cores)
+          c.loop-j-test.true l.invariant.2 c.step-answer.ensures.outcome c.push_reserved.ensures.items,
     )
 
 pub returns : goal.returns

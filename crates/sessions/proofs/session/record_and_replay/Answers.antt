@@ -13,25 +13,25 @@ use Rattle.traces.proofs.Recordings.{begun_done, begun_err}
 use Rattle.sessions.proofs.Wholes as wholes
 use Rattle.sessions.proofs.session.record_and_replay.Goals as goal
 
-pub returns-then-not-buffers-hold : goal.returns-then-not-buffers-hold
-returns-then-not-buffers-hold g c =
+pub returns-then-not-buffers_hold : goal.returns-then-not-buffers_hold
+returns-then-not-buffers_hold g c =
     let a = c.args in
     record {
       outcome = (
-        ap (λ k. settled a.sizes k (length a.cells.now) (length a.store.now)) (length-map a.cores.now g.K.Core.state) ∙ sym c.if-not-buffers-hold.ensures,
+        ap (λ k. settled a.sizes k (length a.cells.now) (length a.store.now)) (length-map a.cores.now g.K.Core.state) ∙ sym c.if-not-buffers_hold.ensures,
         refl,
         refl,
       );
       others = refl;
     }
 
-pub returns-in-err-room : goal.returns-in-err-room
-returns-in-err-room g c =
+pub returns-in_err-room : goal.returns-in_err-room
+returns-in_err-room g c =
     let a = c.args in
-    let p = err_from_is_err_and c.from-residual.result c.from-residual.ensures.1 in
-    let is : c.from-residual.result ≡ Err NoMemory = p.1 ∙ ap Err p.2 in
+    let p = err_from_is_err_and c.from_residual.result c.from_residual.ensures.1 in
+    let is : c.from_residual.result ≡ Err NoMemory = p.1 ∙ ap Err p.2 in
     let b : Buffers = buffers a.cells.now (map g.K.Core.state a.cores.now) a.store.now in
-    let ready = ap (λ k. settled a.sizes k (length a.cells.now) (length a.store.now)) (length-map a.cores.now g.K.Core.state) ∙ sym c.if-not-buffers-hold.ensures in
+    let ready = ap (λ k. settled a.sizes k (length a.cells.now) (length a.store.now)) (length-map a.cores.now g.K.Core.state) ∙ sym c.if-not-buffers_hold.ensures in
     record {
       outcome = subst (ComesTo g.K.Core.state g.R.Reducer.meets (rules g.K.Core.next g.K.Core.after a.text.now) a.sizes a.turns.now a.steps.now b b) (sym is) (ready, refl);
       others = subst (CoresKept a.sizes a.cores.now a.cores.now) (sym is) refl;
@@ -69,24 +69,24 @@ returns g c =
     let store = a.store.now in
     let turns = a.turns.now in
     let steps = a.steps.now in
-    let room = c.in-ok-room.ensures in
-    let t = c.take-turns.new in
+    let room = c.in_ok-room.ensures in
+    let t = c.take_turns.new in
     let w = scene n s c.new-recorder.result cores cells store in
     let v = scene n s t.recorder t.cores t.cells t.store in
     let answers = map said (vec_items t.answers) in
-    let ok = ap (λ k. settled z k (length cells) (length store)) (length-map cores s) ∙ sym c.if-not-buffers-hold.ensures in
+    let ok = ap (λ k. settled z k (length cells) (length store)) (length-map cores s) ∙ sym c.if-not-buffers_hold.ensures in
     let new = ap (λ (x : Tape). record { store = store; book = x.book; history = x.history; numbers = x.numbers }) c.new-recorder.ensures in
     let began : tape n c.begin.new.self c.begin.new.store ≡ fresh_tape z (headed_from z z.cores 0 store) =
-    ap (λ (x : Begun). x.leaves) (c.in-default.ensures.outcome ∙ begun_done z (length cores) (length cells) w.tape (sym c.if-not-buffers-hold.ensures)) in
+    ap (λ (x : Begun). x.leaves) (c.in_default.ensures.outcome ∙ begun_done z (length cores) (length cells) w.tape (sym c.if-not-buffers_hold.ensures)) in
     let long : length (headed_from z z.cores 0 store) ≡ length store =
     ap (λ (x : Tape). length x.store) (sym began) ∙ (let k : length c.begin.new.store ≡ length store = omega arith in k) in
-    let row = subst (λ (x : Tape). InARow meets (rules next after text) (world x cells (map s cores)) (reverse turns) (reverse answers) v) began c.take-turns.ensures.row in
-    let e = c.replay-copies-ends.ensures in
+    let row = subst (λ (x : Tape). InARow meets (rules next after text) (world x cells (map s cores)) (reverse turns) (reverse answers) v) began c.take_turns.ensures.row in
+    let e = c.replay_copies-ends.ensures in
     let sizes = ap (λ (x : Tape). x.book.sizes) began in
-    let beyond = subst (λ y. SurplusKept y cores t.cores cells t.cells) sizes c.take-turns.ensures.surplus in
+    let beyond = subst (λ y. SurplusKept y cores t.cores cells t.cells) sizes c.take_turns.ensures.surplus in
     let states = drop-map s z.cores t.cores ∙ ap (map s) beyond.0 ∙ sym (drop-map s z.cores cores) in
-    let first_cells : vec_items c.in-ok-room.room.cells ≡ take z.cells cells = room.same_cells in
-    let first_states : map s (vec_items c.in-ok-room.room.cores) ≡ take z.cores (map s cores) = ap (map s) room.same_cores ∙ sym (take-map s z.cores cores) in
+    let first_cells : vec_items c.in_ok-room.room.cells ≡ take z.cells cells = room.same_cells in
+    let first_states : map s (vec_items c.in_ok-room.room.cores) ≡ take z.cores (map s cores) = ap (map s) room.same_cores ∙ sym (take-map s z.cores cores) in
     record {
       outcome = (
         ok,

@@ -37,13 +37,13 @@ loop-j-preserved g c =
     let cells : length t.cells ≡ length l.cells = omega arith in
     let cores : length t.cores ≡ length l.cores = omega arith in
     let store : length t.store ≡ length l.store = omega arith in (
-      omega (arith, l.invariant.0, c.push-reserved.ensures.len),
-      omega (arith, l.invariant.1, c.push-reserved.ensures.capacity),
+      omega (arith, l.invariant.0, c.push_reserved.ensures.len),
+      omega (arith, l.invariant.1, c.push_reserved.ensures.capacity),
       sizes ∙ l.invariant.2,
       (kept.0 ∙ l.invariant.3.0, kept.1 ∙ l.invariant.3.1),
       row_goes g.R.Reducer.meets K (scene n s a.recorder.now a.cores.now a.cells.now a.store.now) a.turns.now l.j-index
-          (vec_items l.answers) (vec_items c.push-reserved.new.self) v v' r c.loop-j-test.true l.invariant.4 T
-          cells (length-map t.cores s ∙ cores ∙ sym (length-map l.cores s)) store c.push-reserved.ensures.items,
+          (vec_items l.answers) (vec_items c.push_reserved.new.self) v v' r c.loop-j-test.true l.invariant.4 T
+          cells (length-map t.cores s ∙ cores ∙ sym (length-map l.cores s)) store c.push_reserved.ensures.items,
     )
 
 pub returns : goal.returns

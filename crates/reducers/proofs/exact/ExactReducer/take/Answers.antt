@@ -9,4 +9,4 @@ pub returns-then-cell-lt256 : goal.returns-then-cell-lt256
 returns-then-cell-lt256 c =
     let within : c.args.j < length c.args.self.now.known = search rules in
     when_yes _ _ _ (and_from _ _ (lt-ltb _ _ c.if-source-lt4.true) (and_from _ _ (lt-ltb _ _ c.if-j-lt4.true) (lt-ltb _ _ c.if-cell-lt256.true)))
-    (exact_taken c.args.self.now c.args.source.core c.args.source.count c.args.cell c.args.j c.args.kind c.told-by-told.result c.max.result within c.told-by-told.ensures c.max.ensures)
+    (exact_taken c.args.self.now c.args.source.core c.args.source.count c.args.cell c.args.j c.args.kind c.told_by-told.result c.max.result within c.told_by-told.ensures c.max.ensures)

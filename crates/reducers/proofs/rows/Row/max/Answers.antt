@@ -1,5 +1,5 @@
 -- The larger of two rows, number by number.
-use Rattle.std.proofs.Common.{◌≡◌, length, refl, rules}
+use Rattle.std.proofs.Common.{◌≡◌, length, rules}
 use Rattle.reducers.proofs.RowLists.{four_max}
 use Rattle.reducers.proofs.rows.Row.max.Goals as goal
 

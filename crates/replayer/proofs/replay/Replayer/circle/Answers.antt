@@ -6,7 +6,7 @@ use Rattle.records.specs.Settings.{SurplusKept}
 use Rattle.replayer.specs.Steps.{Outcome}
 use Rattle.replayer.proofs.Runs.{counted_done, counted_refused, circled_more, circled_all, stepped_moves, Moves, moves_none, moves_on}
 use Rattle.replayer.proofs.replay.Replayer.circle.Goals as goal
-use Rattle.replayer.proofs.replay.Replayer.circle.Goals.{in-Ok, in-default}
+use Rattle.replayer.proofs.replay.Replayer.circle.Goals.{in-Ok, in_default}
 
 pub loop-j-preserved : goal.loop-j-preserved
 loop-j-preserved g c =
@@ -15,9 +15,9 @@ loop-j-preserved g c =
     let l = c.loop-j in
     let more : c.match-step.carried ≡ l.carried + counted (step_numbers r) = elim c.match-step.branch [
       | in-Ok w ↦ omega (arith, w.carried-is, counted_done r _ w.in-Ok.is)
-      | in-default w ↦ omega (arith, w.carried-is, counted_refused r w.in-default.not-Ok)
+      | in_default w ↦ omega (arith, w.carried-is, counted_refused r w.in_default.not-Ok)
     ] in
-    let few : c.match-step.carried ≤ l.j + 1 = elim c.match-step.branch [ in-Ok w ↦ omega (arith, w.carried-is, l.invariant.0) | in-default w ↦ omega (arith, w.carried-is, l.invariant.0) ] in
+    let few : c.match-step.carried ≤ l.j + 1 = elim c.match-step.branch [ in-Ok w ↦ omega (arith, w.carried-is, l.invariant.0) | in_default w ↦ omega (arith, w.carried-is, l.invariant.0) ] in
     let m = stepped_moves g.K.Core.next g.K.Core.after a.text.now a.store.now l.self l.cells (map g.K.Core.state l.cores) l.j l.invariant.3.four in
     let kept = subst (λ z. SurplusKept z l.cores c.step.new.cores l.cells c.step.new.cells) l.invariant.3.sizes c.step.ensures.surplus in
     let o : Outcome = record { says = step_numbers r; replayer = c.step.new.self; cells = c.step.new.cells; states = map g.K.Core.state c.step.new.cores } in (

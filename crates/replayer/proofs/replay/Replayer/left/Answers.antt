@@ -14,7 +14,7 @@ loop-j-init c =
 pub loop-j-preserved : goal.loop-j-preserved
 loop-j-preserved c =
     let R = c.args.self.now in
-    (omega (arith, left_more R R.sizes.cores c.loop-j.j c.loop-j-test.true, c.saturating-sub.ensures, c.loop-j.invariant.0), omega (arith, c.saturating-sub.ensures, c.loop-j.invariant.1))
+    (omega (arith, left_more R R.sizes.cores c.loop-j.j c.loop-j-test.true, c.saturating_sub.ensures, c.loop-j.invariant.0), omega (arith, c.saturating_sub.ensures, c.loop-j.invariant.1))
 
 pub returns : goal.returns
 returns c =

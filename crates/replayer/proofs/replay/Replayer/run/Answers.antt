@@ -18,11 +18,11 @@ remains x y n e h z = omega arith
 spent : (x y n : ℕ) → x + n ≡ y → y ≤ n → x ≡ 0
 spent x y n e h = omega arith
 
-pub returns-then-not-buffers-hold : goal.returns-then-not-buffers-hold
-returns-then-not-buffers-hold g c =
+pub returns-then-not-buffers_hold : goal.returns-then-not-buffers_hold
+returns-then-not-buffers_hold g c =
     let a = c.args in
     record {
-      outcome = run_unsettled _ _ _ _ a.self.now a.cells.now (map g.K.Core.state a.cores.now) (simp length-map c.if-not-buffers-hold.ensures);
+      outcome = run_unsettled _ _ _ _ a.self.now a.cells.now (map g.K.Core.state a.cores.now) (simp length-map c.if-not-buffers_hold.ensures);
       surplus = (refl, refl);
     }
 
@@ -30,19 +30,19 @@ pub loop-steps-init : goal.loop-steps-init
 loop-steps-init g c =
     let a = c.args in
     let four : length a.self.now.done ≡ 4 = search rules in (
-      running_start _ _ _ _ a.self.now a.cells.now (map g.K.Core.state a.cores.now) (simp length-map c.if-not-buffers-hold.ensures) four,
+      running_start _ _ _ _ a.self.now a.cells.now (map g.K.Core.state a.cores.now) (simp length-map c.if-not-buffers_hold.ensures) four,
       (refl, refl),
     )
 
-pub overflow-add-steps : goal.overflow-add-steps
-overflow-add-steps g c =
+pub overflow_add-steps : goal.overflow_add-steps
+overflow_add-steps g c =
     let a = c.args in
     let l = c.loop-steps in
     let R = a.self.now in
     let s = session l.steps l.self l.cells (map g.K.Core.state l.cores) in
     let m = around_moves g.K.Core.next g.K.Core.after a.text.now a.store.now s l.invariant.0.moves.four in
     let n = subst (λ t. Moves l.self t.replayer t.carried) (sym c.circle-moved.ensures.circled) m in
-    let total : left R < 4294967296 = omega (arith, c.left-total.ensures, c.left-total.type-inv) in
+    let total : left R < 4294967296 = omega (arith, c.left-total.ensures, c.left-total.type_inv) in
     bounded (left l.self) (left R) l.steps c.circle-moved.result (left c.circle-moved.new.self) l.invariant.0.moves.fewer n.fewer total
 
 pub returns-then-moved-eq0 : goal.returns-then-moved-eq0
