@@ -1,9 +1,9 @@
 -- A history that recalls a run gives each access the run's candidates.
-use Rattle.std.proofs.Common.{◌≡◌, ℕ, zero, suc, ◌+◌, ◌-◌, ◌<◌, ◌≤◌, Bool, true, false, cond, ◌&&◌, eqb, ltb, leb, ◌≢◌, ◌⊎◌, ◌↔◌, List, [], ◌∷◌, get_or, Some, None, Option, sym, refl, ap, ◌∙◌, subst, inl, inr, arith}
+use Rattle.std.proofs.Common.{◌≡◌, ℕ, zero, suc, ◌+◌, ◌-◌, ◌<◌, ◌≤◌, Bool, true, false, cond, ◌&&◌, eqb, ltb, leb, ◌≢◌, ◌⊎◌, List, [], ◌∷◌, get_or, Some, None, Option, sym, refl, ap, ◌∙◌, subst, inl, inr, arith}
 use mathlib.Core.Option.{none, some, none-ne-some, some-injective}
 use mathlib.Core.Option as of_run
 use native.Mathlib.Decide.{ℕ_discrete}
-use Rattle.std.proofs.lemmas.Bool.{and_from, lt-ltb, le-ltb, le-leb, lt-leb, eq-eqb, ne_eqb, eqb-true, eqb-false, cond-true, cond-false, cases_eq, cases_lt, false≢true}
+use Rattle.std.proofs.lemmas.Bool.{and_from, lt-ltb, le-ltb, le-leb, lt-leb, eq-eqb, ne_eqb, cond-true, cond-false, cases_lt, false≢true}
 use Rattle.std.specs.List.{AllByRecursion as All}
 use Rattle.reducers.specs.declared.interface.AccessKind.{AccessKind}
 use Rattle.reducers.specs.declared.interface.AccessKind.TheVariants.{Read, Write}
@@ -12,15 +12,15 @@ use Rattle.accesses.specs.declared.access.Candidate.{Candidate}
 use Rattle.accesses.specs.declared.history.CellHistory.{CellHistory}
 use Rattle.accesses.specs.Histories as history
 use Rattle.accesses.specs.Histories.{no_cell, write_if, read_or, from_core, other, latest_first, candidates_of, candidates_at}
-use Rattle.runs.proofs.CandidatesCover.{Sound, cases}
+use Rattle.runs.proofs.CandidatesCover.{cases}
 use Rattle.runs.proofs.NewestFirst.{position_inj, given_met, newest_first}
 use Rattle.runs.proofs.WorkingOrder.{choose_yes, choose_no, if_same_cond}
 use Rattle.runs.specs.Candidates as run_candidates
 use Rattle.runs.specs.Candidates.{last_write, latest_read, made_by, or_else, candidate, candidates}
 use Rattle.runs.specs.Positions.{position, Newest}
 use Rattle.runs.specs.Recording.{In}
-use Rattle.runs.specs.Runs.{Event, Instr, Run, ev, read, write, core_of, done}
-use Rattle.access_laws.specs.Recalls.{Is, SameWrite, SameRead, Recalls, as_run, given, access_to, CandidatesAreTheRuns}
+use Rattle.runs.specs.Runs.{Event, Instr, Run, ev, read, write, done}
+use Rattle.access_laws.specs.Recalls.{Is, SameWrite, SameRead, Recalls, as_run, given, CandidatesAreTheRuns}
 use Rattle.access_laws.proofs.Ordering.{sorted_in, sorted_out, Distinct, Apart, Good, sorted_falls}
 
 module _ (r : Run) where

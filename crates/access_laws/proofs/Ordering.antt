@@ -1,18 +1,15 @@
 -- Candidates put in order are the run's: the same ones, the latest position first.
-use Rattle.std.proofs.Common.{◌≡◌, ℕ, ◌+◌, ◌<◌, ◌≤◌, Bool, true, false, cond, ◌&&◌, leb, ◌≢◌, ◌⊎◌, ◌↔◌, List, [], ◌∷◌, Some, None, Option, sym, refl, ap, ◌∙◌, subst, inl, inr, arith}
-use mathlib.Core.Option.{none, some}
-use mathlib.Core.Option as of_run
+use Rattle.std.proofs.Common.{◌≡◌, ℕ, ◌<◌, ◌≤◌, leb, List, [], ◌∷◌, Some, None, Option, sym, ap, ◌∙◌, inl, inr, arith}
 use Rattle.std.proofs.lemmas.Bool.{cond_both, cases_eq, cases_lt}
 use Rattle.std.specs.List.{AllByRecursion as All}
 use Rattle.accesses.proofs.Order.{put_all, ordered}
 use Rattle.accesses.specs.declared.access.Candidate.{Candidate}
 use Rattle.accesses.specs.Histories.{position_of, put, latest_first}
 use Rattle.accesses.specs.Laws as order
-use Rattle.runs.proofs.NewestFirst.{position_inj, given_met}
 use Rattle.runs.specs.Candidates as run_candidates
 use Rattle.runs.specs.Positions.{position, Falls}
 use Rattle.runs.specs.Recording.{In}
-use Rattle.runs.specs.Runs.{Event, Run}
+use Rattle.runs.specs.Runs.{Run}
 use Rattle.access_laws.specs.Recalls.{as_run, given}
 
 abbrev Cands : Type 0

@@ -1,5 +1,5 @@
 -- Remembering each access keeps what the run says of each cell's last write and latest reads.
-use Rattle.std.proofs.Common.{◌≡◌, ℕ, zero, suc, ◌<◌, ◌≤◌, Bool, true, false, cond, ◌&&◌, ltb, ◌⊎◌, List, [], ◌∷◌, length, get_or, set, replicate, Some, None, Option, sym, refl, ap, ◌∙◌, subst, inl, inr, arith}
+use Rattle.std.proofs.Common.{◌≡◌, ℕ, zero, suc, ◌<◌, ◌&&◌, ltb, List, [], ◌∷◌, length, get_or, set, replicate, Some, None, Option, sym, refl, ap, ◌∙◌, subst, inl, inr, arith}
 use mathlib.Core.Option.{none, some}
 use mathlib.Core.Option as of_run
 use native.Mathlib.Decide.{ℕ_discrete}
@@ -14,7 +14,6 @@ use Rattle.runs.proofs.NewestFirst.{position_new, position_old}
 use Rattle.runs.proofs.Remembered.{Found, placed_in, lw_found, lr_found}
 use Rattle.runs.proofs.WorkingOrder.{Inside, choose_yes, choose_no}
 use Rattle.runs.specs.Candidates.{last_write, latest_read}
-use Rattle.runs.specs.Positions.{position}
 use Rattle.runs.specs.Runs as run
 use Rattle.runs.specs.Runs.{Instr, Run, Event, ev, local, read, write, core_of, choose, done, turns, next}
 use Rattle.access_laws.specs.Recalls.{Is, SameWrite, SameRead, Recalls, NothingIsRecalledAtFirst, next_access, RememberingRecallsTheRun}

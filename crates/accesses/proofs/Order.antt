@@ -1,5 +1,5 @@
 -- Candidates put in order: each is at least as late as those behind it, and none is lost or added.
-use Rattle.std.proofs.Common.{◌≡◌, ℕ, ◌+◌, ◌<◌, ◌≤◌, Bool, true, false, cond, leb, List, [], ◌∷◌, Option, refl, arith}
+use Rattle.std.proofs.Common.{◌<◌, ◌≤◌, leb, List, [], ◌∷◌, Option, refl, arith}
 use Rattle.std.specs.List.{AllByRecursion as All}
 use Rattle.std.specs.List.Sorted.{IsPermutation}
 use Rattle.std.proofs.lemmas.Bool.{cond_both, leb-true, leb-false}

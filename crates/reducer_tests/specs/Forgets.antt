@@ -1,5 +1,5 @@
 -- The numbers of a reducer that forgets: the count of the last arc taken to a core, for its source core, and no stamps.
-use Rattle.std.specs.Prelude.{◌≡◌, ℕ, cond, List, [], ◌∷◌, ◌==◌, slice_index}
+use Rattle.std.specs.Prelude.{◌≡◌, cond, [], ◌∷◌, ◌==◌, slice_index}
 use Rattle.reducers.specs.Numbers.{Numbers}
 use Rattle.reducer_tests.specs.declared.forgetful.Forgetful.{Forgetful}
 

@@ -1,14 +1,13 @@
 -- Where the numbers are a function of their bounds, a recording is the one that this function gives.
-use Rattle.std.proofs.Common.{◌≡◌, ℕ, ◌<◌, ◌≤◌, cond, leb, List, [], ◌∷◌, sym, refl, ap, ◌∙◌}
-use mathlib.Core.Path.{fun_ext}
+use Rattle.std.proofs.Common.{◌≡◌, leb, List, ◌∷◌, sym, refl, ap, ◌∙◌}
 use Rattle.std.proofs.lemmas.Bool.{cond-true, cond-false, le-leb, lt-leb}
 use Rattle.reducers.specs.declared.interface.AccessKind.TheVariants.{Read, Write}
 use Rattle.reducers.specs.Numbers.{Numbers, zeros, taken, noted}
 use Rattle.reducers.specs.Rows.{KnownOnly}
 use Rattle.runs.specs.Candidates.{Candidate, candidates}
-use Rattle.runs.specs.Recording.{Arc, arc, place_of, Meets, Judged, none_left, answers_yes, answers_no, Noted, Recording, begin, turn}
-use Rattle.runs.specs.Reducers.{Reducer, Recorded, judge, after_note, recorded, known_only}
-use Rattle.runs.specs.Runs.{local, read, write, Event, ev, Run, Instr, core_of, access_of, next}
+use Rattle.runs.specs.Recording.{Arc, arc, Meets, Judged, none_left, answers_yes, answers_no, Noted, Recording, begin, turn}
+use Rattle.runs.specs.Reducers.{Reducer, judge, after_note, recorded, known_only}
+use Rattle.runs.specs.Runs.{local, read, write, Event, ev, Run, Instr, core_of, next}
 use Rattle.runs.specs.Theorems.{ThreeReducersAreDecided}
 
 module _ (meets : Meets) (F : Numbers → Numbers) (decides : (n b : Numbers) → meets n b → n ≡ F b) where

@@ -5,7 +5,7 @@ use Rattle.reducers.specs.Numbers.{Numbers}
 use Rattle.runs.specs.Candidates.{Candidate, candidates, last_write, latest_read}
 use Rattle.runs.specs.Positions.{Once}
 use Rattle.runs.specs.Recording.{In}
-use Rattle.runs.specs.Runs.{Event, Instr, Run, access_of, core_of, ev, local, read}
+use Rattle.runs.specs.Runs.{Event, Instr, Run, access_of, core_of, ev, local}
 use Rattle.runs.proofs.Bounds.{stamp_of}
 use Rattle.runs.proofs.ExactWalk.{Good, Holds, Stamps, Down, Ready, Cover, Fresh, walked, sources, walk_known, walk_log, walk_once, Some, cover_to, cover_from, Top, fresh_to, fresh_from}
 use Rattle.runs.proofs.CandidatesCover.{Is, stamped, Met, cand_met, ByCand, covered}
