@@ -1,5 +1,5 @@
 -- What each reducer's bounds leave it: one choice.
-use Rattle.core.specs.Prelude.{◌≡◌}
+use Rattle.std.specs.Prelude.{◌≡◌}
 use Rattle.recorder.specs.Decided.{Decides, exactly, nothing, known_only}
 use Rattle.reducers.specs.Numbers.{zeros}
 use Rattle.reducers.specs.Rows.{KnownOnly}

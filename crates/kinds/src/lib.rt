@@ -1,7 +1,7 @@
 // Turns at each of the three reducers: one outcome each.
 #![tactic(auto)]
 
-ghost use Rattle.core.specs.Prelude.{◌≡◌};
+ghost use Rattle.std.specs.Prelude.{◌≡◌};
 ghost use Rattle.recorder.specs.Decided.{turned_by, exactly, nothing, known_only};
 ghost use Rattle.recorder.specs.Turns.{rules, scene, answered, said, kept, unmoved};
 ghost use Rattle.records.specs.Settings.{SurplusKept};

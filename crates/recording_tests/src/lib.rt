@@ -131,11 +131,12 @@ mod tests {
         // Takes the turns in order, and holds each to its answer.
         fn play<const N: usize>(
             &mut self,
+            rt: &impl Abort,
             text: &[u8],
             turns: [(usize, Answer); N],
         ) -> Result<(), Fail> {
             for (core, expected) in turns {
-                assert_eq!(self.turn(text, core), expected);
+                assert_eq!(rt; self.turn(text, core), expected);
             }
             Ok(())
         }
@@ -143,12 +144,13 @@ mod tests {
         // Begins, and takes the turns.
         fn session<const N: usize>(
             &mut self,
+            rt: &impl Abort,
             sizes: Sizes,
             text: &[u8],
             turns: [(usize, Answer); N],
         ) -> Result<(), Fail> {
-            assert_eq!(self.begin(sizes), 0);
-            self.play(text, turns)
+            assert_eq!(rt; self.begin(sizes), 0);
+            self.play(rt, text, turns)
         }
 
         fn has_log(&self, core: u8, log: &[u8]) -> bool {
@@ -184,7 +186,7 @@ mod tests {
             (2, Ok((write(0, 4), 2, 0, last))),
             (2, Err(2)),
         ];
-        bench.session(sizes(3, 2, LOG), WORKED, turns)?;
+        bench.session(rt, sizes(3, 2, LOG), WORKED, turns)?;
         assert!(rt;
             bench.logged([
                 b"HC\0\x03\0\x02ED\0\x01\0\0",
@@ -220,7 +222,7 @@ mod tests {
             (1, Ok((read(0), 2, 0, 0))),
             (2, Ok((write(0, 6), 1, 0, 1))),
         ];
-        bench.session(sizes(3, 2, LOG), text, turns)?;
+        bench.session(&rt, sizes(3, 2, LOG), text, turns)?;
         assert!(rt;
             bench.logged([
                 b"HC\0\x03\0\x02ED\0\x02\0\0",
@@ -242,7 +244,7 @@ mod tests {
             (1, Ok((read(0), 1, 7, 1))),
             (1, Ok((write(0, 8), 2, 0, 1))),
         ];
-        bench.session(sizes(3, 2, LOG), text, turns)?;
+        bench.session(&rt, sizes(3, 2, LOG), text, turns)?;
         assert!(rt;
             bench.logged([
                 b"HC\0\x03\0\x02ED\0\x02\0\0",
@@ -260,14 +262,14 @@ mod tests {
         let mut bench = Bench::new(Exact::new(), [0, 1, 3]);
         assert_eq!(rt; bench.begin(sizes(3, 2, 25)), 0);
         let before = bench.store;
-        bench.play(text, [(0, Err(5)), (2, Err(4))])?;
+        bench.play(&rt, text, [(0, Err(5)), (2, Err(4))])?;
         assert!(rt; bench.store == before && bench.cells == [0, 0]);
-        bench.play(text, [(1, Ok((Request::Local, 1, 0, 0))), (1, Err(5))])?;
+        bench.play(&rt, text, [(1, Ok((Request::Local, 1, 0, 0))), (1, Err(5))])?;
         let turns = [
             (0, Ok((write(0, 7), 1, 0, 0))),
             (1, Ok((write(1, 9), 1, 0, 0))),
         ];
-        bench.session(sizes(3, 2, 26), text, turns)?;
+        bench.session(&rt, sizes(3, 2, 26), text, turns)?;
         assert_eq!(rt; bench.cells, [7, 9]);
         Ok(())
     }
@@ -289,7 +291,7 @@ mod tests {
             (0, Err(2)),
             (1, Err(1)),
         ];
-        bench.session(sizes(1, 1, 12), text, turns)?;
+        bench.session(&rt, sizes(1, 1, 12), text, turns)?;
         assert!(rt; bench.has_log(0, b"HC\0\x01\0\x01ED\0\x04\0\0"));
         Ok(())
     }
@@ -314,15 +316,15 @@ mod tests {
     fn refusals(rt: HostRuntime) -> Result<(), Fail> {
         let text = b"\x01\x01\0\0\xff\0\0\0\0\0\0\0";
         let mut bench = Bench::new(Exact::new(), [0, 1, 2]);
-        bench.play(text, [(0, Err(8)), (7, Err(8))])?;
+        bench.play(&rt, text, [(0, Err(8)), (7, Err(8))])?;
         let turns = [(2, Err(1)), (7, Err(1)), (1, Err(2)), (0, Err(4))];
-        bench.session(sizes(2, 1, 12), text, turns)?;
+        bench.session(&rt, sizes(2, 1, 12), text, turns)?;
         assert_eq!(rt; bench.begin(sizes(3, 2, LOG)), 0);
         let before = bench.store;
         assert_eq!(rt; cut(&mut bench, text), [Err(8), Err(8), Err(8)]);
         assert_eq!(rt; bench.begin(sizes(3, 2, 34)), 8);
         assert!(rt; bench.store == before);
-        bench.play(text, [(7, Err(1)), (2, Ok((Request::Local, 1, 0, 0)))])
+        bench.play(&rt, text, [(7, Err(1)), (2, Ok((Request::Local, 1, 0, 0)))])
     }
 
     // Sizes, what begin answers, and the count of core 0's next turn: a refused begin keeps the former recording.
@@ -420,10 +422,10 @@ mod tests {
                 (0, Ok((write(0, number), 1, 0, 0))),
                 (1, Ok((read(0), 1, number, 1))),
             ];
-            bench.session(sizes(3, 2, LOG), text, turns)?;
+            bench.session(rt, sizes(3, 2, LOG), text, turns)?;
         }
         let exchange = Request::Exchange { cell: 0, number: 9 };
-        bench.session(sizes(3, 2, LOG), text, [(2, Ok((exchange, 1, 8, 0)))])?;
+        bench.session(rt, sizes(3, 2, LOG), text, [(2, Ok((exchange, 1, 8, 0)))])?;
         assert!(rt; bench.store[0..12].starts_with(b"HC\0\x03\0\x02ED\0\0\0\0"));
         Ok(())
     }

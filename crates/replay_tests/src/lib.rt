@@ -118,14 +118,15 @@ mod tests {
     }
 
     fn record<R: Reducer>(
+        rt: &impl Abort,
         recorder: &mut Recorder<R>,
         cores: &mut [ScriptCore],
         cells: &mut [u16],
         store: &mut [u8],
     ) -> Result<(), Fail> {
-        assert!(recorder.begin(SIZES, cores, cells, store).is_ok());
+        assert!(rt; recorder.begin(SIZES, cores, cells, store).is_ok());
         for j in [0, 1, 1, 2, 2] {
-            assert!(recorder.turn(WORKED, cores, cells, store, j).is_ok());
+            assert!(rt; recorder.turn(WORKED, cores, cells, store, j).is_ok());
         }
         Ok(())
     }
@@ -150,19 +151,19 @@ mod tests {
         }
 
         // With the logs of the worked run.
-        fn recorded<R: Reducer + Drop>(reducer: R) -> Result<Bench, Fail> {
+        fn recorded<R: Reducer + Drop>(rt: &impl Abort, reducer: R) -> Result<Bench, Fail> {
             let mut recorder = Recorder::new(reducer);
             let mut cores = worked_cores();
             let mut cells = [0; 2];
             let mut store = [0; 99];
-            record(&mut recorder, &mut cores, &mut cells, &mut store)?;
+            record(rt, &mut recorder, &mut cores, &mut cells, &mut store)?;
             Ok(Bench::new(store))
         }
 
         // Opened, with the logs of the worked run.
-        fn opened<R: Reducer + Drop>(reducer: R) -> Result<Bench, Fail> {
-            let mut bench = Bench::recorded(reducer)?;
-            assert_eq!(bench.open(SIZES), Ok(()));
+        fn opened<R: Reducer + Drop>(rt: &impl Abort, reducer: R) -> Result<Bench, Fail> {
+            let mut bench = Bench::recorded(rt, reducer)?;
+            assert_eq!(rt; bench.open(SIZES), Ok(()));
             Ok(bench)
         }
 
@@ -210,11 +211,12 @@ mod tests {
         // Takes the steps in order, and holds each to its answer.
         fn play<const N: usize>(
             &mut self,
+            rt: &impl Abort,
             text: &[u8],
             steps: [(usize, Answer); N],
         ) -> Result<(), Fail> {
             for (core, expected) in steps {
-                assert_eq!(self.step(text, core), expected);
+                assert_eq!(rt; self.step(text, core), expected);
             }
             Ok(())
         }
@@ -230,7 +232,7 @@ mod tests {
             (1, Ok((read(0), 1, 7))),
             (2, Err([6, 1, 2, 0, 0])),
         ];
-        bench.play(WORKED, steps)?;
+        bench.play(rt, WORKED, steps)?;
         assert_eq!(rt; bench.cells, [7, 0]);
         assert_eq!(rt; bench.run(), (Ok((true, 3)), [4, 9]));
         Ok(())
@@ -238,15 +240,15 @@ mod tests {
 
     #[test]
     fn steps_wait_for_their_arcs(rt: HostRuntime) -> Result<(), Fail> {
-        out_of_order(&rt, Bench::opened(Exact::new())?)?;
-        out_of_order(&rt, Bench::opened(Pairwise::new())?)?;
-        out_of_order(&rt, Bench::opened(KeepAll)?)
+        out_of_order(&rt, Bench::opened(&rt, Exact::new())?)?;
+        out_of_order(&rt, Bench::opened(&rt, Pairwise::new())?)?;
+        out_of_order(&rt, Bench::opened(&rt, KeepAll)?)
     }
 
     // A second open starts anew, and leaves cells and cores as they are.
     #[test]
     fn runs_finish(rt: HostRuntime) -> Result<(), Fail> {
-        let mut bench = Bench::opened(Exact::new())?;
+        let mut bench = Bench::opened(&rt, Exact::new())?;
         assert_eq!(rt; bench.run(), (Ok((true, 5)), [4, 9]));
         assert_eq!(rt; bench.run(), (Ok((true, 0)), [4, 9]));
         assert_eq!(rt; bench.open(SIZES), Ok(()));
@@ -278,9 +280,9 @@ mod tests {
     // The first reason that there is, is answered, and nothing is changed.
     #[test]
     fn refused_steps(rt: HostRuntime) -> Result<(), Fail> {
-        let mut bench = Bench::recorded(Exact::new())?;
+        let mut bench = Bench::recorded(&rt, Exact::new())?;
         let unset = [8, 0, 0, 0, 0];
-        bench.play(WORKED, [(0, Err(unset)), (7, Err(unset))])?;
+        bench.play(&rt, WORKED, [(0, Err(unset)), (7, Err(unset))])?;
         assert_eq!(rt; bench.run(), (Err(unset), [0, 0]));
         assert_eq!(rt; bench.open(SIZES), Ok(()));
         assert_eq!(rt; cut(&mut bench), [Err(unset); 3]);
@@ -290,9 +292,9 @@ mod tests {
             (1, Err([6, 0, 1, 0, 0])),
             (0, Err([2, 0, 0, 0, 0])),
         ];
-        bench.play(b"", steps)?;
+        bench.play(&rt, b"", steps)?;
         let no_cell = [(0, Err([4, 0, 0, 0, 0]))];
-        bench.play(b"\x01\x02\0\0", no_cell)?;
+        bench.play(&rt, b"\x01\x02\0\0", no_cell)?;
         assert_eq!(rt; bench.run(), (Ok((true, 5)), [4, 9]));
         Ok(())
     }
@@ -304,17 +306,17 @@ mod tests {
         asked: Sizes,
         expected: Code,
     ) -> Result<(), Fail> {
-        bench.play(WORKED, [(0, Ok((write(0, 7), 1, 0)))])?;
+        bench.play(rt, WORKED, [(0, Ok((write(0, 7), 1, 0)))])?;
         assert_eq!(rt; bench.open(asked), Err(expected));
         let steps = [(0, Err([7, 0, 0, 0, 0])), (1, Ok((read(0), 1, 7)))];
-        bench.play(WORKED, steps)?;
+        bench.play(rt, WORKED, steps)?;
         assert_eq!(rt; bench.open(SIZES), Ok(()));
-        bench.play(WORKED, [(1, Err([6, 0, 1, 0, 0]))])
+        bench.play(rt, WORKED, [(1, Err([6, 0, 1, 0, 0]))])
     }
 
     #[test]
     fn refused_openings(rt: HostRuntime) -> Result<(), Fail> {
-        let bench = Bench::opened(Exact::new())?;
+        let bench = Bench::opened(&rt, Exact::new())?;
         let rows = [
             (sizes(4, 2, 12), [8, 0, 0, 0, 0]),
             (sizes(3, 3, 33), [8, 0, 0, 0, 0]),
@@ -337,7 +339,7 @@ mod tests {
         expected: Code,
     ) -> Result<(), Fail> {
         let right = bench.damage(at, byte);
-        bench.play(WORKED, [(j, Err(expected))])?;
+        bench.play(rt, WORKED, [(j, Err(expected))])?;
         assert_eq!(rt; bench.open(SIZES), Err(expected));
         assert_eq!(rt; bench.cells, [0, 0]);
         bench.damage(at, right);
@@ -348,7 +350,7 @@ mod tests {
     // Core 0's log is head and end, core 1's from byte 33 on is head, arc and end.
     #[test]
     fn damaged_logs(rt: HostRuntime) -> Result<(), Fail> {
-        let bench = Bench::opened(Exact::new())?;
+        let bench = Bench::opened(&rt, Exact::new())?;
         let rows = [
             (6, 0, 0, [9, 1, 0, 6, 2]),
             (11, 1, 0, [9, 2, 0, 6, 5]),
@@ -388,7 +390,7 @@ mod tests {
         assert_eq!(rt; bench.open(sizes(2, 2, 33)), Ok(()));
         assert_eq!(rt; bench.run(), (Ok((false, 0)), [0, 0]));
         let steps = [(0, Err([6, 1, 1, 0, 0])), (1, Err([6, 0, 1, 0, 0]))];
-        bench.play(WORKED, steps)
+        bench.play(&rt, WORKED, steps)
     }
 
     // Two arcs to 0:1: it waits for the first whose source is not done.
@@ -406,7 +408,7 @@ mod tests {
             (1, Ok((read(0), 1, 0))),
             (0, Ok((write(0, 7), 1, 0))),
         ];
-        bench.play(WORKED, steps)?;
+        bench.play(&rt, WORKED, steps)?;
         assert_eq!(rt; bench.run(), (Ok((true, 0)), [7, 0]));
         Ok(())
     }
