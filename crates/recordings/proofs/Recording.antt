@@ -1,6 +1,5 @@
 -- An accepted turn of a recorder that tracks the plain memory logs by the rules, and goes on tracking it.
-use Rattle.std.proofs.Common.{◌≡◌, ℕ, ◌+◌, ◌<◌, ◌≤◌, true, false, ◌&&◌, ltb, ◌≢◌, List, [], ◌∷◌, get_or, set, Some, None, MatchBool, Option, sym, refl, ◌∙◌, subst, inl, inr, arith}
-use mathlib.Core.Option.{some}
+use Rattle.std.proofs.Common.{◌≡◌, ℕ, ◌+◌, ◌<◌, ◌≤◌, true, false, ◌&&◌, ltb, List, [], ◌∷◌, get_or, set, Some, None, MatchBool, Option, sym, refl, ◌∙◌, subst, inl, inr, arith}
 use Rattle.std.proofs.lemmas.List.{length-set}
 use Rattle.std.proofs.lemmas.Bool.{and_from, lt-ltb, ltb-true, cases_lt, false≢true}
 use Rattle.std.specs.List.{AllByRecursion as All}
@@ -30,7 +29,7 @@ use Rattle.runs.proofs.CandidatesCover.{cases}
 use Rattle.runs.proofs.NewestFirst.{newest_first, given_met}
 use Rattle.runs.specs.Candidates as run_candidates
 use Rattle.runs.specs.Candidates.{candidates}
-use Rattle.runs.specs.PlainRun.{run, access}
+use Rattle.runs.specs.PlainRun.{access}
 use Rattle.runs.specs.Recording.{In, Arc, Meets, Judged, none_left, Noted, turn}
 use Rattle.runs.specs.Runs.{Event, Run, ev, local, read, write, done, next}
 use Rattle.recordings.specs.ByTheRules.{Logs, next_event}

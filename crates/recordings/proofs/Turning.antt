@@ -3,7 +3,7 @@ use Rattle.std.proofs.Common.{◌≡◌, ℕ, zero, suc, ◌<◌, ◌≤◌, Boo
 use Rattle.std.proofs.lemmas.List.{get_or-take}
 use Rattle.std.proofs.lemmas.Bool.{and_parts, leb-true, leb-false, ltb-true, false≢true}
 use Rattle.cores.specs.Acting.{within}
-use Rattle.cores.specs.Memory.{Rules, brought, stored, able, plain}
+use Rattle.cores.specs.Memory.{Rules, brought, stored, able}
 use Rattle.cores.specs.declared.core.Request.{Request}
 use Rattle.cores.specs.declared.core.Request.TheVariants.{Halt, Local, Read, Write, Exchange}
 use Rattle.records.specs.Settings.{fits}

@@ -5,7 +5,7 @@ use Rattle.std.proofs.lemmas.Bool.{eqb-true, leb-true, ltb-true, lt-ltb, and_fro
 use Rattle.cores.specs.declared.core.Request.{Request}
 use Rattle.cores.specs.declared.core.Request.TheVariants.{Halt, Local, Read, Write, Exchange}
 use Rattle.cores.specs.Acting.{within}
-use Rattle.cores.specs.Memory.{Rules, Memory, able, brought, stored, outcome, effect, turned, accepts, plain}
+use Rattle.cores.specs.Memory.{Rules, Memory, able, brought, stored, outcome, effect, turned, accepts}
 use Rattle.records.specs.declared.settings.Sizes.{Sizes}
 use Rattle.records.specs.Faults.{bad_setting}
 use Rattle.records.specs.Settings.{fits, settled}

@@ -6,7 +6,7 @@ use Rattle.records.specs.declared.reading.SavedPlace.{SavedPlace}
 use Rattle.records.specs.declared.reading.State.{State}
 use Rattle.records.specs.declared.settings.Heading.{Heading}
 use Rattle.records.specs.Faults.{Fault}
-use Rattle.records.specs.Format.{LogArc, arc, end}
+use Rattle.records.specs.Format.{LogArc, arc}
 use Rattle.records.specs.Reading.{broken, arc_stands, resumed, held_at}
 use Rattle.records.proofs.Looking.{seen_both}
 use Rattle.logs.specs.Lawful.{Behind, Lawful, Within, Holds}

@@ -1,5 +1,5 @@
 -- No dropped ordering was needed: recording, opening, steps and runs joined.
-use Rattle.std.proofs.Common.{◌≡◌, ℕ, ◌+◌, ◌-◌, ◌<◌, ◌≤◌, leb, List, [], ◌∷◌, ◌++◌, length, get_or, drop, sym, ap, ◌∙◌, subst, arith, length-append}
+use Rattle.std.proofs.Common.{◌≡◌, ℕ, ◌+◌, ◌<◌, ◌≤◌, leb, List, [], ◌∷◌, ◌++◌, length, get_or, drop, sym, ap, ◌∙◌, subst, arith, length-append}
 use Rattle.std.proofs.lemmas.List.{length-take-le}
 use Rattle.std.proofs.lemmas.Bool.{and_parts, leb-true}
 use Rattle.cores.specs.Memory.{Rules, Memory, plain, start}
@@ -11,7 +11,7 @@ use Rattle.recorder.specs.Turns.{Tape}
 use Rattle.recordings.proofs.Sessions.{traces_are_recorded, new_has_recorded_nothing}
 use Rattle.recordings.specs.Sessions as recorded
 use Rattle.replayer.specs.Memories.{rules_of}
-use Rattle.replayer.specs.Runs.{Session, session, counted}
+use Rattle.replayer.specs.Runs.{session, counted}
 use Rattle.replayer.specs.Steps.{reopened}
 use Rattle.replayer.specs.declared.replay.Replayer.{Replayer}
 use Rattle.runs.proofs.AnyReducer.{replay_agrees_with}
@@ -20,7 +20,7 @@ use Rattle.runs.specs.Theorems.{Bounded}
 use Rattle.traces.proofs.Recordings.{traces_are_faithful, new_is_faithful}
 use Rattle.traces.specs.Recording as traced
 use Rattle.replays.specs.Promise.{NoDroppedOrderingWasNeeded}
-use Rattle.replays.specs.Calls.{stage, steps, runs}
+use Rattle.replays.specs.Calls.{stage}
 use Rattle.replays.proofs.Opening.{recordings_open}
 use Rattle.cores.specs.Memory.{outcomes}
 use Rattle.lawful_logs.specs.Orderly.{Orderly}

@@ -12,7 +12,7 @@ use Rattle.replayer.specs.Steps.{stepped}
 use Rattle.runs.proofs.ReplaySteps.{goes_parts}
 use Rattle.runs.proofs.Waiting.{waits_for_sources, own_log_is_enough}
 use Rattle.runs.specs.Recording.{Arc, In, log}
-use Rattle.runs.specs.Replay.{Progress, free, waiting, goes, step, replayed, Replays}
+use Rattle.runs.specs.Replay.{Progress, free, waiting, goes, replayed, Replays}
 use Rattle.replays.specs.Matches.{step_says, waited}
 use Rattle.replays.specs.Replies.{instruction_said, reply, done_after, replies, dones, steps_said}
 use Rattle.replays.specs.Walks.{Walked}

@@ -1,7 +1,7 @@
 -- A replay over the bytes of logs goes step by step as the replay over the arcs of the recording.
 use Rattle.std.specs.Prelude.{◌≡◌, ℕ, ◌<◌, true, cond, List, [], ◌∷◌, length, nat_le, slice_index}
 use Rattle.std.proofs.Math.Option.{Option, none, some}
-use Rattle.cores.specs.Memory.{Rules, Memory, outcome, plain}
+use Rattle.cores.specs.Memory.{Rules, Memory, outcome}
 use Rattle.cores.specs.declared.core.Request.{Request}
 use Rattle.records.specs.Settings.{settled}
 use Rattle.recordings.specs.Tracks.{logs_of}

@@ -11,14 +11,14 @@ use Rattle.logs.specs.Session.{no_counts}
 use Rattle.records.specs.Settings.{fits, settled, no_sizes}
 use Rattle.records.specs.declared.settings.Sizes.{Sizes}
 use Rattle.recorded_logs.specs.Held.{surplus}
-use Rattle.recorder.specs.Turns.{Tape, World, world, ready, fresh_tape, headed_from, new_arcs, asks}
+use Rattle.recorder.specs.Turns.{Tape, World, world, fresh_tape, headed_from, new_arcs, asks}
 use Rattle.recordings.proofs.ByTheRules.{rows_have_accounts}
 use Rattle.recordings.proofs.Tracking.{cells_size, states_size}
 use Rattle.recordings.specs.ByTheRules.{Account, ByTheRules, InARow, none, then, calls_with, trace_with}
 use Rattle.recordings.specs.Sessions as recorded
 use Rattle.recordings.specs.Tracks.{run_of, Tracks}
 use Rattle.replayer.specs.Memories.{rules_of, walked}
-use Rattle.replayer.specs.Runs.{Session, session, one}
+use Rattle.replayer.specs.Runs.{Session, one}
 use Rattle.replayer.specs.Steps.{Outcome, started}
 use Rattle.replays.proofs.Promise.{replay_agrees_over, logs_hold}
 use Rattle.replays.specs.Opening.{Again}
