@@ -4,7 +4,7 @@ use mathlib.Core.Option.{none, some, none-ne-some, some-injective}
 use mathlib.Core.Option as of_run
 use native.Mathlib.Decide.{ℕ_discrete}
 use Rattle.std.proofs.lemmas.Bool.{and_from, lt-ltb, le-ltb, le-leb, lt-leb, eq-eqb, ne_eqb, cond-true, cond-false, cases_lt, false≢true}
-use Rattle.std.specs.List.{AllByRecursion as All}
+use Rattle.std.specs.List.{AllByRecursion}
 use Rattle.reducers.specs.declared.interface.AccessKind.{AccessKind}
 use Rattle.reducers.specs.declared.interface.AccessKind.TheVariants.{Read, Write}
 use Rattle.accesses.specs.declared.access.Access.{Access}
@@ -105,7 +105,7 @@ module _ (r : Run) where
     good_one (Some x) none g = absurd g
     good_one (Some x) (some y) g = g.1 ∙ ap (λ v. position r v.source) (sym g.0)
 
-    each_good : (os : List (Option Candidate)) (ks : List ℕ) → Each os ks → All (Good r) os
+    each_good : (os : List (Option Candidate)) (ks : List ℕ) → Each os ks → AllByRecursion (Good r) os
     each_good [] [] h = tt
     each_good [] (k ∷ ks) h = absurd h
     each_good (o ∷ os) [] h = absurd h

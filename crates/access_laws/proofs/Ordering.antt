@@ -1,7 +1,7 @@
 -- Candidates put in order are the run's: the same ones, the latest position first.
 use Rattle.std.proofs.Common.{◌≡◌, ℕ, ◌<◌, ◌≤◌, leb, List, [], ◌∷◌, Some, None, Option, sym, ap, ◌∙◌, inl, inr, arith}
 use Rattle.std.proofs.lemmas.Bool.{cond_both, cases_eq, cases_lt}
-use Rattle.std.specs.List.{AllByRecursion as All}
+use Rattle.std.specs.List.{AllByRecursion}
 use Rattle.accesses.proofs.Order.{put_all, ordered}
 use Rattle.accesses.specs.declared.access.Candidate.{Candidate}
 use Rattle.accesses.specs.Histories.{position_of, put, latest_first}
@@ -62,15 +62,15 @@ distinct_sym (Some x) (Some y) d = λ q. d (sym q)
 
 abbrev pub Apart : Cands → Type 0
 Apart [] = Unit {0}
-Apart (x ∷ xs) = All (Distinct x) xs × Apart xs
+Apart (x ∷ xs) = AllByRecursion (Distinct x) xs × Apart xs
 
-put_apart : (x : Option Candidate) (ys : Cands) → All (Distinct x) ys → Apart ys → Apart (put x ys)
+put_apart : (x : Option Candidate) (ys : Cands) → AllByRecursion (Distinct x) ys → Apart ys → Apart (put x ys)
 put_apart x [] d a = (tt, tt)
 put_apart x (y ∷ ys) d a =
     cond_both (leb (position_of y) (position_of x)) (x ∷ y ∷ ys) (y ∷ put x ys) Apart (λ _. (d, a))
     (λ _. (put_all (Distinct y) x ys (distinct_sym x y d.0) a.0, put_apart x ys d.1 a.1))
 
-sorted_all : (Q : Option Candidate → Type 0) (xs : Cands) → All Q xs → All Q (latest_first xs)
+sorted_all : (Q : Option Candidate → Type 0) (xs : Cands) → AllByRecursion Q xs → AllByRecursion Q (latest_first xs)
 sorted_all Q [] h = tt
 sorted_all Q (x ∷ xs) h = put_all Q x (latest_first xs) h.0 (sorted_all Q xs h.1)
 
@@ -84,7 +84,7 @@ module _ (r : Run) where
   Good None = Unit {0}
   Good (Some x) = x.position ≡ position r (as_run x).source
 
-  later : (x : Candidate) (xs : Cands) → x.position ≡ position r (as_run x).source → All Good xs → All (λ y. position_of y ≤ position_of (Some x)) xs → All (Distinct (Some x)) xs →
+  later : (x : Candidate) (xs : Cands) → x.position ≡ position r (as_run x).source → AllByRecursion Good xs → AllByRecursion (λ y. position_of y ≤ position_of (Some x)) xs → AllByRecursion (Distinct (Some x)) xs →
       (z : run_candidates.Candidate) → In z (given xs) → position r z.source < position r (as_run x).source
   later x [] g gs le ds z m = absurd m
   later x (None ∷ xs) g gs le ds z m = later x xs g gs.1 le.1 ds.1 z m
@@ -96,10 +96,10 @@ module _ (r : Run) where
       less a b u v p q h n = elim (cases_lt b a) [ inl l ↦ omega arith | inr l ↦ absurd (n (omega arith)) ]
   later x (Some y ∷ xs) g gs le ds z (inr m) = later x xs g gs.1 le.1 ds.1 z m
 
-  strict : (xs : Cands) → All Good xs → order.Falls xs → Apart xs → Falls (λ y. position r y.source) (given xs)
+  strict : (xs : Cands) → AllByRecursion Good xs → order.Falls xs → Apart xs → Falls (λ y. position r y.source) (given xs)
   strict [] g f a = tt
   strict (None ∷ xs) g f a = strict xs g.1 f.1 a.1
   strict (Some x ∷ xs) g f a = (later x xs g.0 g.1 f.0 a.0, strict xs g.1 f.1 a.1)
 
-  pub sorted_falls : (xs : Cands) → All Good xs → Apart xs → Falls (λ y. position r y.source) (given (latest_first xs))
+  pub sorted_falls : (xs : Cands) → AllByRecursion Good xs → Apart xs → Falls (λ y. position r y.source) (given (latest_first xs))
   sorted_falls xs g a = strict (latest_first xs) (sorted_all Good xs g) (ordered xs).0 (sorted_apart xs a)

@@ -1,6 +1,6 @@
 -- Candidates put in order: each is at least as late as those behind it, and none is lost or added.
 use Rattle.std.proofs.Common.{◌<◌, ◌≤◌, leb, List, [], ◌∷◌, Option, refl, arith}
-use Rattle.std.specs.List.{AllByRecursion as All}
+use Rattle.std.specs.List.{AllByRecursion}
 use Rattle.std.specs.List.Sorted.{IsPermutation}
 use Rattle.std.proofs.lemmas.Bool.{cond_both, leb-true, leb-false}
 use Rattle.std.proofs.lemmas.List.Sorted.{IsPermutation-refl, IsPermutation-cons, IsPermutation-swap, IsPermutation-trans}
@@ -11,14 +11,14 @@ use Rattle.accesses.specs.Laws.{Falls, LatestFirst}
 abbrev Cands : Type 0
 Cands = List (Option Candidate)
 
-all_map : (P Q : Option Candidate → Type 0) → ((y : Option Candidate) → P y → Q y) → (ys : Cands) → All P ys → All Q ys
+all_map : (P Q : Option Candidate → Type 0) → ((y : Option Candidate) → P y → Q y) → (ys : Cands) → AllByRecursion P ys → AllByRecursion Q ys
 all_map P Q f [] h = h
 all_map P Q f (y ∷ ys) h = (f y h.0, all_map P Q f ys h.1)
 
-pub put_all : (P : Option Candidate → Type 0) (x : Option Candidate) (ys : Cands) → P x → All P ys → All P (put x ys)
+pub put_all : (P : Option Candidate → Type 0) (x : Option Candidate) (ys : Cands) → P x → AllByRecursion P ys → AllByRecursion P (put x ys)
 put_all P x [] hx h = (hx, tt)
 put_all P x (y ∷ ys) hx h =
-    cond_both (leb (position_of y) (position_of x)) (x ∷ (y ∷ ys)) (y ∷ put x ys) (All P) (λ _. (hx, h)) (λ _. (h.0, put_all P x ys hx h.1))
+    cond_both (leb (position_of y) (position_of x)) (x ∷ (y ∷ ys)) (y ∷ put x ys) (AllByRecursion P) (λ _. (hx, h)) (λ _. (h.0, put_all P x ys hx h.1))
 
 put_falls : (x : Option Candidate) (ys : Cands) → Falls ys → Falls (put x ys)
 put_falls x [] h = (tt, tt)

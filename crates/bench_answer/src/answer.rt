@@ -15,7 +15,7 @@ use bench_input::errors::InputError;
 use bench_input::input::{Input, Kind, Reduction};
 use bench_input::reading::read_input;
 use bench_listing::listing::list_run;
-use cores::core::Core;
+use cores::interface::Core;
 use records::faults::Refusal;
 use records::settings::Sizes;
 use reducers::exact::Exact;
@@ -51,8 +51,8 @@ fn list_session<K: Core, R: Reducer + Drop>(
     store: &mut [u8],
     turns: &[usize],
 ) -> Result<String, AllocError>
-    requires store_value { settled sizes (length cores.old) (length cells.old) (length store.old) ≡ true }
-    requires cores_len { (length cores.old ≡ sizes.cores) × (length cells.old ≡ sizes.cells) }
+    requires fitting { settled sizes (length cores.old) (length cells.old) (length store.old) ≡ true }
+    requires lengths { (length cores.old ≡ sizes.cores) × (length cells.old ≡ sizes.cells) }
     ensures { IfOk result (λ s. Told R.Reducer.meets (rules K.Core.next K.Core.after text.now) sizes (start cells.old (map K.Core.state cores.old)) turns.now (string_bytes s)) }
 {
     let session = match record_and_replay(

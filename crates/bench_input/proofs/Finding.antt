@@ -1,6 +1,6 @@
 -- A session is found in a text just if the text describes it.
 use Rattle.std.proofs.Common.{◌≡◌, ℕ, zero, suc, ◌+◌, ◌*◌, ◌<◌, ◌≤◌, true, leb, List, [], ◌∷◌, ◌++◌, length, get_or, take, drop, Some, None, Option, sym, refl, ap, ◌∙◌, subst, add-zero, arith, length-append, length-drop}
-use Rattle.std.specs.List.{AllByRecursion as All}
+use Rattle.std.specs.List.{AllByRecursion}
 use Rattle.std.proofs.lemmas.List.{drop_more, drop-drop, drop_at, take_at, take-append-drop, length-take-le, get_or-drop}
 use Rattle.std.proofs.lemmas.Bool.{cond-true, and_parts, and_from, leb-true, le-leb}
 use Rattle.bench_input.specs.declared.input.Kind.{Kind}
@@ -13,14 +13,14 @@ use Rattle.bench_input.specs.Described.{all_bytes, kind_of, reduction_of, cores_
 use Rattle.bench_input.proofs.Fitting.{Fits, fits, tested}
 use Rattle.bench_input.proofs.Sessions.{true_from_some}
 
-bytes_so : (ns : List ℕ) → all_bytes ns ≡ true → All (λ b. b < 256) ns
+bytes_so : (ns : List ℕ) → all_bytes ns ≡ true → AllByRecursion (λ b. b < 256) ns
 bytes_so [] e = tt
 bytes_so (n ∷ ns) e =
     let p = and_parts (leb n 255) (all_bytes ns) e in
     let small = leb-true _ _ p.0 in
     (omega arith, bytes_so ns p.1)
 
-so_bytes : (ns : List ℕ) → All (λ b. b < 256) ns → all_bytes ns ≡ true
+so_bytes : (ns : List ℕ) → AllByRecursion (λ b. b < 256) ns → all_bytes ns ≡ true
 so_bytes [] h = refl
 so_bytes (n ∷ ns) h = let small : n ≤ 255 = omega (arith, h.0) in and_from _ _ (le-leb n 255 small) (so_bytes ns h.1)
 

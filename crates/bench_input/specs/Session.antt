@@ -1,6 +1,6 @@
 -- A session as it is asked for, and the text that asks for it.
 use Rattle.std.specs.Prelude.{◌≡◌, ℕ, ◌*◌, ◌<◌, ◌≤◌, List, ◌∷◌, ◌++◌, length, Some, vec_items}
-use Rattle.std.specs.List.{AllByRecursion as All}
+use Rattle.std.specs.List.{AllByRecursion}
 use Rattle.std.specs.Int.{IsInRange}
 use Rattle.bench_input.specs.declared.input.Input.{Input}
 use Rattle.bench_input.specs.declared.input.Kind.{Kind}
@@ -54,6 +54,6 @@ pub record Describes (bs : List ℕ) (s : Session) : Type 0 where
   pub cells : IsInRange 1 256 s.cells
   pub few_items : items ≤ 256
   pub text : length s.text ≡ 4 * items
-  pub bytes : All (λ b. b < 256) s.text
+  pub bytes : AllByRecursion (λ b. b < 256) s.text
   pub starts : length s.starts ≡ s.cores
   pub few_turns : length s.turns ≤ 1024

@@ -2,8 +2,8 @@
 use Rattle.std.proofs.Common.{◌≡◌, ℕ, ◌<◌, Bool, true, false, cond, ltb, List, [], ◌∷◌, ◌++◌, length, get_or, set, sym, refl, ap, ◌∙◌, subst, inl, inr, arith}
 use Rattle.std.proofs.lemmas.List.{get_or-set_same, get_or-set_other, length-set}
 use Rattle.std.proofs.lemmas.Bool.{and_parts, ltb-true, cases_eq}
-use Rattle.cores.specs.declared.core.Request.{Request}
-use Rattle.cores.specs.declared.core.Request.TheVariants.{Halt, Local, Read, Write, Exchange}
+use Rattle.cores.specs.declared.interface.Request.{Request}
+use Rattle.cores.specs.declared.interface.Request.TheVariants.{Halt, Local, Read, Write, Exchange}
 use Rattle.cores.specs.Latest.{Reads, Stores, Latest, ReadsBringTheLatestStore}
 use Rattle.cores.specs.Memory.{Rules, Memory, Outcome, brought, stored, able, outcome, effect, turned, accepts, plain, Accepted, outcomes, fed, unrefused, RefusedTurnsChangeNothing}
 

@@ -3,7 +3,7 @@ use Rattle.std.proofs.Common.{◌≡◌, ℕ, ◌+◌, ◌<◌, ◌≤◌, ltb, 
 use Rattle.std.proofs.lemmas.List.{length-map, get_or-map, map-set, set_past, take-set, drop-set-lt}
 use Rattle.std.proofs.lemmas.Bool.{cond-true, cond-false, lt-ltb, le-ltb}
 use Rattle.cores.specs.Acting.{requested, told, OthersKept}
-use Rattle.cores.specs.declared.core.Request.{Request}
+use Rattle.cores.specs.declared.interface.Request.{Request}
 
 module _ {K : Type 0} (state : K → List ℕ) (text : List ℕ) (cores : List K) (j : ℕ) where
   here : j < length cores → (core : K) → core ≡ get_or cores j core → get_or (map state cores) j [] ≡ state core

@@ -4,8 +4,8 @@ use Rattle.std.proofs.lemmas.List.{drop-set-lt, drop-drop}
 use Rattle.std.proofs.lemmas.Bool.{ltb-true}
 use Rattle.cores.specs.Acting.{within}
 use Rattle.cores.specs.Memory.{stored}
-use Rattle.cores.specs.declared.core.Request.{Request}
-use Rattle.cores.specs.declared.core.Request.TheVariants.{Halt, Local, Read, Write, Exchange}
+use Rattle.cores.specs.declared.interface.Request.{Request}
+use Rattle.cores.specs.declared.interface.Request.TheVariants.{Halt, Local, Read, Write, Exchange}
 
 pub stored_surplus : (r : Request) (n : ℕ) (cells : List ℕ) → within r n ≡ true → drop n (stored r cells) ≡ drop n cells
 stored_surplus Halt n cells h = refl

@@ -1,7 +1,7 @@
 -- A request of one core of several, and what it does to the cells and to that core.
 use Rattle.std.specs.Prelude.{◌≡◌, ℕ, ◌+◌, Bool, true, cond, List, [], ◌∷◌, length, take, drop, Some, None, Option, nat_lt, slice_index_or, slice_set}
-use Rattle.cores.specs.declared.core.Request.{Request}
-use Rattle.cores.specs.declared.core.Request.TheVariants.{Halt, Local, Read, Write, Exchange}
+use Rattle.cores.specs.declared.interface.Request.{Request}
+use Rattle.cores.specs.declared.interface.Request.TheVariants.{Halt, Local, Read, Write, Exchange}
 
 -- a request by its number and values
 abbrev pub request_numbers : Request → List ℕ

@@ -1,8 +1,8 @@
 -- What an instruction reads: the number of the latest earlier store to its cell, or the starting number.
 use Rattle.std.specs.Prelude.{◌≡◌, ℕ, ◌⊎◌, List, ◌∷◌, ◌++◌, slice_index}
-use Rattle.std.specs.List.{AllByRecursion as All}
-use Rattle.cores.specs.declared.core.Request.{Request}
-use Rattle.cores.specs.declared.core.Request.TheVariants.{Halt, Local, Read, Write, Exchange}
+use Rattle.std.specs.List.{AllByRecursion}
+use Rattle.cores.specs.declared.interface.Request.{Request}
+use Rattle.cores.specs.declared.interface.Request.TheVariants.{Halt, Local, Read, Write, Exchange}
 use Rattle.cores.specs.Memory.{Rules, Memory, Outcome, outcomes, Accepted}
 
 -- a request brings the number of cell c: a read or an exchange of it
@@ -23,7 +23,7 @@ Stores (Exchange d v) c n = (d ≡ c) × (v ≡ n)
 
 -- none of these instructions stores to the cell
 abbrev pub Untouched : ℕ → List Outcome → Type 0
-Untouched c es = All (λ e. (v : ℕ) → Stores e.request c v → ⊥) es
+Untouched c es = AllByRecursion (λ e. (v : ℕ) → Stores e.request c v → ⊥) es
 
 -- n is what the latest of these instructions, the newest first, stored to cell c, or the starting number if none stores to it
 abbrev pub Latest : List ℕ → List Outcome → ℕ → ℕ → Type 0

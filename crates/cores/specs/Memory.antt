@@ -1,7 +1,7 @@
 -- The plain memory: cells, the states of the cores, and how many instructions each core has done.
 use Rattle.std.specs.Prelude.{◌≡◌, ℕ, suc, Bool, true, false, cond, ◌&&◌, List, [], ◌∷◌, length, get_or, replicate, Some, None, Option, ◌==◌, nat_lt, slice_index, slice_index_or, slice_set}
-use Rattle.cores.specs.declared.core.Request.{Request}
-use Rattle.cores.specs.declared.core.Request.TheVariants.{Halt, Local, Read, Write, Exchange}
+use Rattle.cores.specs.declared.interface.Request.{Request}
+use Rattle.cores.specs.declared.interface.Request.TheVariants.{Halt, Local, Read, Write, Exchange}
 
 -- the rules of a kind of core, over a fixed text: the next request of a state, and the state after it from the number brought
 pub record Rules : Type 0 where

@@ -3,7 +3,7 @@ ghost use Rattle.std.specs.Prelude.{◌≡◌, map, slice_index, slice_set};
 ghost use Rattle.cores.specs.Acting.{within, requested, told, OthersKept};
 ghost use Rattle.cores.specs.Memory.{brought, stored};
 
-use crate::core::{Core, Request};
+use crate::interface::{Core, Request};
 
 // What core `j` requests, if there is such a core.
 pub fn request_of<K: Core>(text: &[u8], cores: &[K], j: usize) -> Option<Request>

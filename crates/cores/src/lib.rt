@@ -2,7 +2,7 @@
 #![tactic(auto)]
 
 pub mod acting;
-pub mod core;
+pub mod interface;
 pub mod laws;
 pub mod register;
 pub mod script;

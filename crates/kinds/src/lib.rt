@@ -8,7 +8,7 @@ ghost use Rattle.records.specs.Settings.{SurplusKept};
 ghost use Rattle.reducers.specs.Numbers.{zeros};
 ghost use Rattle.reducers.specs.Rows.{exact_numbers, pairwise_numbers};
 
-use cores::core::Core;
+use cores::interface::Core;
 use recorder::recording::{Recorded, Recorder};
 use recorder::rules::Refusal;
 use reducers::exact::Exact;

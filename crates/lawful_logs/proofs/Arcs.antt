@@ -1,7 +1,7 @@
 -- The arcs of an access obey the rules, among themselves and behind those of earlier instructions.
 use Rattle.std.proofs.Common.{◌≡◌, ℕ, ◌<◌, ◌≤◌, List, [], ◌∷◌, ◌++◌, Some, None, Option, refl, arith}
 use Rattle.std.proofs.lemmas.Bool.{cond_both}
-use Rattle.std.specs.List.{AllByRecursion as All}
+use Rattle.std.specs.List.{AllByRecursion}
 use Rattle.accesses.specs.declared.access.Access.{Access}
 use Rattle.accesses.specs.declared.access.Candidate.{Candidate}
 use Rattle.logs.specs.Lawful.{Stands, Behind, Lawful}
@@ -14,11 +14,11 @@ use Rattle.reducers.specs.Numbers.{Numbers}
 use Rattle.lawful_logs.specs.Orderly.{done_by}
 use Rattle.lawful_logs.proofs.Candidates.{Fit, Apart, Distinct}
 
-pub all_map : {X : Type 0} (P Q : X → Type 0) (xs : List X) → ((x : X) → P x → Q x) → All P xs → All Q xs
+pub all_map : {X : Type 0} (P Q : X → Type 0) (xs : List X) → ((x : X) → P x → Q x) → AllByRecursion P xs → AllByRecursion Q xs
 all_map P Q [] f h = h
 all_map P Q (x ∷ xs) f h = (f x h.0, all_map P Q xs f h.1)
 
-pub all_append : {X : Type 0} (P : X → Type 0) (xs ys : List X) → All P xs → All P ys → All P (xs ++ ys)
+pub all_append : {X : Type 0} (P : X → Type 0) (xs ys : List X) → AllByRecursion P xs → AllByRecursion P ys → AllByRecursion P (xs ++ ys)
 all_append P [] ys h k = k
 all_append P (x ∷ xs) ys h k = (h.0, all_append P xs ys h.1 k)
 
@@ -31,23 +31,23 @@ abbrev To : (LogArc → Type 0) → Access → Option Candidate → Type 0
 To Q by None = Unit {0}
 To Q by (Some x) = Q (arc_from by x)
 
-fresh_all : (Q : LogArc → Type 0) (by : Access) (n : Numbers) (o : Option Candidate) → To Q by o → All Q (fresh by n o)
+fresh_all : (Q : LogArc → Type 0) (by : Access) (n : Numbers) (o : Option Candidate) → To Q by o → AllByRecursion Q (fresh by n o)
 fresh_all Q by n None h = tt
-fresh_all Q by n (Some x) h = cond_both (known? by.core n x) [] (arc_from by x ∷ []) (All Q) (λ _. tt) (λ _. (h, tt))
+fresh_all Q by n (Some x) h = cond_both (known? by.core n x) [] (arc_from by x ∷ []) (AllByRecursion Q) (λ _. tt) (λ _. (h, tt))
 
-arcs_all : (Q : LogArc → Type 0) (by : Access) (n : Numbers) (xs : List (Option Candidate)) (ms : List Numbers) → All (To Q by) xs → All Q (arcs_to by n xs ms)
+arcs_all : (Q : LogArc → Type 0) (by : Access) (n : Numbers) (xs : List (Option Candidate)) (ms : List Numbers) → AllByRecursion (To Q by) xs → AllByRecursion Q (arcs_to by n xs ms)
 arcs_all Q by n [] ms h = tt
 arcs_all Q by n (x ∷ xs) [] h = tt
 arcs_all Q by n (x ∷ xs) (m ∷ ms) h = all_append Q (fresh by n x) (arcs_to by m xs ms) (fresh_all Q by n x h.0) (arcs_all Q by m xs ms h.1)
 
-pub arcs_target : (by : Access) (n : Numbers) (xs : List (Option Candidate)) (ms : List Numbers) → All (λ a. a.target ≡ by.count) (arcs_to by n xs ms)
+pub arcs_target : (by : Access) (n : Numbers) (xs : List (Option Candidate)) (ms : List Numbers) → AllByRecursion (λ a. a.target ≡ by.count) (arcs_to by n xs ms)
 arcs_target by n xs ms = arcs_all (λ a. a.target ≡ by.count) by n xs ms (each xs)
   where
     one : (o : Option Candidate) → To (λ a. a.target ≡ by.count) by o
     one None = tt
     one (Some x) = refl
 
-    each : (os : List (Option Candidate)) → All (To (λ a. a.target ≡ by.count) by) os
+    each : (os : List (Option Candidate)) → AllByRecursion (To (λ a. a.target ≡ by.count) by) os
     each [] = tt
     each (o ∷ os) = (one o, each os)
 
@@ -66,14 +66,14 @@ module _ (b : Book) (by : Access) (some : 0 < by.count) where
   done None f = tt
   done (Some x) f = f.2.1
 
-  pub arcs_done : (n : Numbers) (xs : List (Option Candidate)) (ms : List Numbers) → All Fits xs → All (λ a. a.count ≤ done_by b a.source) (arcs_to by n xs ms)
+  pub arcs_done : (n : Numbers) (xs : List (Option Candidate)) (ms : List Numbers) → AllByRecursion Fits xs → AllByRecursion (λ a. a.count ≤ done_by b a.source) (arcs_to by n xs ms)
   arcs_done n xs ms h = arcs_all (λ a. a.count ≤ done_by b a.source) by n xs ms (all_map Fits (To (λ a. a.count ≤ done_by b a.source) by) xs done h)
 
   apart_behind : (x : Candidate) (o : Option Candidate) → Apart (Some x) o → To (Behind (arc_from by x)) by o
   apart_behind x None h = tt
   apart_behind x (Some y) h = record { order = omega arith; once = λ _ e. h e }
 
-  pub arcs_lawful : (n : Numbers) (xs : List (Option Candidate)) (ms : List Numbers) → All Fits xs → Distinct xs → Lawful g (arcs_to by n xs ms)
+  pub arcs_lawful : (n : Numbers) (xs : List (Option Candidate)) (ms : List Numbers) → AllByRecursion Fits xs → Distinct xs → Lawful g (arcs_to by n xs ms)
   arcs_lawful n [] ms f d = tt
   arcs_lawful n (x ∷ xs) [] f d = tt
   arcs_lawful n (None ∷ xs) (m ∷ ms) f d = arcs_lawful m xs ms f.1 d.1
@@ -84,7 +84,7 @@ module _ (b : Book) (by : Access) (some : 0 < by.count) where
       cond_both (known? by.core n x) [] (arc_from by x ∷ []) (λ front. Lawful g (front ++ rest)) (λ _. more) (λ _. (stands (Some x) f.0, behind, more))
 
 -- later arcs behind earlier ones
-pub lawful_append : (g : Heading) (xs ys : List LogArc) (n : ℕ) → Lawful g xs → All (λ a. a.target ≤ n) xs → Lawful g ys → All (λ a. n < a.target) ys → Lawful g (xs ++ ys)
+pub lawful_append : (g : Heading) (xs ys : List LogArc) (n : ℕ) → Lawful g xs → AllByRecursion (λ a. a.target ≤ n) xs → Lawful g ys → AllByRecursion (λ a. n < a.target) ys → Lawful g (xs ++ ys)
 lawful_append g [] ys n l r k s = k
 lawful_append g (x ∷ xs) ys n l r k s =
     let behind = all_map (λ a. n < a.target) (Behind x) ys (λ a h. record { order = omega (arith, r.0, h); once = λ e _. omega (arith, r.0, h, e) }) s in

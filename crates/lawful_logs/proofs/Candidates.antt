@@ -1,7 +1,7 @@
 -- The candidates of an access come from other cores of the session, at most one from each, and were done.
 use Rattle.std.proofs.Common.{◌≡◌, ℕ, ◌+◌, ◌<◌, Bool, true, false, cond, ◌&&◌, eqb, ltb, leb, List, [], ◌∷◌, get_or, Some, None, Option, sym, refl, ◌∙◌, arith}
 use Rattle.std.proofs.lemmas.Bool.{cond_both, eqb-true, eqb-false, ltb-true, ltb-false, leb-false}
-use Rattle.std.specs.List.{AllByRecursion as All}
+use Rattle.std.specs.List.{AllByRecursion}
 use Rattle.accesses.proofs.Order.{put_all}
 use Rattle.accesses.specs.Histories.{candidate, write_if, read_or, from_core, other, put, latest_first, position_of, candidates_of, candidates_at, no_cell}
 use Rattle.accesses.specs.declared.access.Access.{Access}
@@ -27,7 +27,7 @@ Apart (Some x) (Some y) = x.source.core ≡ y.source.core → ⊥
 
 abbrev pub Distinct : Cands → Type 0
 Distinct [] = Unit {0}
-Distinct (x ∷ xs) = All (Apart x) xs × Distinct xs
+Distinct (x ∷ xs) = AllByRecursion (Apart x) xs × Distinct xs
 
 abbrev At : ℕ → Option Candidate → Type 0
 At i None = Unit {0}
@@ -44,13 +44,13 @@ at_apart i l None y n p q = tt
 at_apart i l (Some x) None n p q = tt
 at_apart i l (Some x) (Some y) n p q = λ e. n (sym p ∙ e ∙ q)
 
-put_distinct : (x : Option Candidate) (ys : Cands) → All (Apart x) ys → Distinct ys → Distinct (put x ys)
+put_distinct : (x : Option Candidate) (ys : Cands) → AllByRecursion (Apart x) ys → Distinct ys → Distinct (put x ys)
 put_distinct x [] h d = (tt, tt)
 put_distinct x (y ∷ ys) h d =
     cond_both (leb (position_of y) (position_of x)) (x ∷ y ∷ ys) (y ∷ put x ys) Distinct
     (λ _. (h, d)) (λ _. (put_all (Apart y) x ys (apart_sym x y h.0) d.0, put_distinct x ys h.1 d.1))
 
-latest_all : (P : Option Candidate → Type 0) (xs : Cands) → All P xs → All P (latest_first xs)
+latest_all : (P : Option Candidate → Type 0) (xs : Cands) → AllByRecursion P xs → AllByRecursion P (latest_first xs)
 latest_all P [] h = h
 latest_all P (x ∷ xs) h = put_all P x (latest_first xs) h.0 (latest_all P xs h.1)
 
@@ -105,11 +105,11 @@ module _ (b : Book) (P j : ℕ) where
       go true p q = absurd (grind arith)
       go false p q = (ltb-true a.core P q, eqb-false a.core j p, d)
 
-  candidates_are : (h : CellHistory) (w : AccessKind) → CellDone b h → All (Fit b P j) (candidates_of P h j w) × Distinct (candidates_of P h j w)
+  candidates_are : (h : CellHistory) (w : AccessKind) → CellDone b h → AllByRecursion (Fit b P j) (candidates_of P h j w) × Distinct (candidates_of P h j w)
   candidates_are h Read d =
       ((last_write h.last_write d.1, (tt, (tt, tt))), (nones (write_if (λ k. cond (eqb k j) false (ltb k P)) h.last_write), ((tt, tt), (tt, tt))))
     where
-      nones : (o : Option Candidate) → All (Apart o) (None ∷ None ∷ [])
+      nones : (o : Option Candidate) → AllByRecursion (Apart o) (None ∷ None ∷ [])
       nones None = (tt, (tt, tt))
       nones (Some x) = (tt, (tt, tt))
   candidates_are h Write d =
@@ -128,7 +128,7 @@ module _ (b : Book) (P j : ℕ) where
       (latest_all (Fit b P j) xs (x.0, (y.0, (z.0, tt))), latest_distinct xs ((ab, (ac, tt)), ((bc, tt), (tt, tt))))
 
   pub candidates_fit : (cells : List CellHistory) (c : ℕ) (w : AccessKind) → CellDone b (get_or cells c no_cell) →
-      All (Fit b P j) (candidates_at P cells c j w) × Distinct (candidates_at P cells c j w)
+      AllByRecursion (Fit b P j) (candidates_at P cells c j w) × Distinct (candidates_at P cells c j w)
   candidates_fit cells c w d =
-      cond_both (ltb j 4 && ltb c 256) (candidates_of P (get_or cells c no_cell) j w) (None ∷ None ∷ None ∷ []) (λ xs. All (Fit b P j) xs × Distinct xs)
+      cond_both (ltb j 4 && ltb c 256) (candidates_of P (get_or cells c no_cell) j w) (None ∷ None ∷ None ∷ []) (λ xs. AllByRecursion (Fit b P j) xs × Distinct xs)
       (λ _. candidates_are (get_or cells c no_cell) w d) (λ _. ((tt, (tt, (tt, tt))), ((tt, (tt, tt)), ((tt, tt), (tt, tt)))))

@@ -2,7 +2,7 @@
 use Rattle.std.proofs.Common.{◌≡◌, ℕ, zero, suc, ◌+◌, ◌<◌, ◌≤◌, true, cond, not, ◌&&◌, eqb, ltb, List, [], ◌∷◌, ◌++◌, map, length, get_or, drop, set, replicate, Some, None, Option, sym, refl, ap, ◌∙◌, subst, inl, inr, arith}
 use Rattle.std.proofs.lemmas.List.{length-map, get_or-set_same, get_or-set_other}
 use Rattle.std.proofs.lemmas.Bool.{cases_Bool, cases_eq, cond_both, cond-true, cond-false, eq-eqb, ne_eqb}
-use Rattle.std.specs.List.{AllByRecursion as All}
+use Rattle.std.specs.List.{AllByRecursion}
 use Rattle.accesses.specs.Histories.{no_reads, no_cell, untouched, remembered}
 use Rattle.accesses.specs.declared.access.Access.{Access}
 use Rattle.accesses.specs.declared.history.CellHistory.{CellHistory}
@@ -72,10 +72,10 @@ module _ (b b' : Book) (grows : (k : ℕ) → done_by b k ≤ done_by b' k) wher
   cell_more : (h : CellHistory) → CellDone b h → CellDone b' h
   cell_more h d = ((λ i. read_more i (get_or h.reads i None) (d.0 i)), write_more h.last_write d.1)
 
-  reached_more : (k : ℕ) (arcs : List LogArc) → All (λ a. a.target ≤ done_by b k) arcs → All (λ a. a.target ≤ done_by b' k) arcs
+  reached_more : (k : ℕ) (arcs : List LogArc) → AllByRecursion (λ a. a.target ≤ done_by b k) arcs → AllByRecursion (λ a. a.target ≤ done_by b' k) arcs
   reached_more k arcs = all_map (λ a. a.target ≤ done_by b k) (λ a. a.target ≤ done_by b' k) arcs (λ a h. omega (arith, h, grows k))
 
-  sources_more : (arcs : List LogArc) → All (λ a. a.count ≤ done_by b a.source) arcs → All (λ a. a.count ≤ done_by b' a.source) arcs
+  sources_more : (arcs : List LogArc) → AllByRecursion (λ a. a.count ≤ done_by b a.source) arcs → AllByRecursion (λ a. a.count ≤ done_by b' a.source) arcs
   sources_more arcs = all_map (λ a. a.count ≤ done_by b a.source) (λ a. a.count ≤ done_by b' a.source) arcs (λ a h. omega (arith, h, grows a.source))
 
 -- an access that was done is remembered
@@ -114,7 +114,7 @@ module _ (b : Book) (j arcs end : ℕ) (at : j < length b.logs) where
   ]
 
 fit_for : (b : Book) (j : ℕ) (history : List CellHistory) (touch : Option Touch) → ((c : ℕ) → CellDone b (get_or history c no_cell)) →
-    All (Fit b b.sizes.cores j) (candidates_for b.sizes.cores history j touch) × Distinct (candidates_for b.sizes.cores history j touch)
+    AllByRecursion (Fit b b.sizes.cores j) (candidates_for b.sizes.cores history j touch) × Distinct (candidates_for b.sizes.cores history j touch)
 fit_for b j history None all = (tt, tt)
 fit_for b j history (Some t) all = candidates_fit b b.sizes.cores j history t.cell t.kind (all t.cell)
 

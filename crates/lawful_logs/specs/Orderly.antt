@@ -1,6 +1,6 @@
 -- What is remembered was done, and the arcs of every log obey the rules.
 use Rattle.std.specs.Prelude.{◌≡◌, ℕ, ◌<◌, ◌≤◌, List, map, replicate, Some, None, Option, slice_index_or}
-use Rattle.std.specs.List.{AllByRecursion as All}
+use Rattle.std.specs.List.{AllByRecursion}
 use Rattle.accesses.specs.Histories.{no_cell, untouched}
 use Rattle.accesses.specs.declared.access.Access.{Access}
 use Rattle.accesses.specs.declared.history.CellHistory.{CellHistory}
@@ -39,8 +39,8 @@ CellDone b h = ((i : ℕ) → ReadDone b i (slice_index_or h.reads i None)) × W
 -- the arcs in the log of core k: lawful, to and from instructions that were done
 pub record OrderlyLog (b : Book) (k : ℕ) (arcs : List LogArc) : Type 0 where
   pub lawful : Lawful (heading_of b.sizes k) arcs
-  pub reached : All (λ a. a.target ≤ done_by b k) arcs
-  pub sources : All (λ a. a.count ≤ done_by b a.source) arcs
+  pub reached : AllByRecursion (λ a. a.target ≤ done_by b k) arcs
+  pub sources : AllByRecursion (λ a. a.count ≤ done_by b a.source) arcs
 
 pub record Orderly (w : World) (r : Recording) : Type 0 where
   pub remembered : (c : ℕ) → CellDone w.tape.book (slice_index_or w.tape.history c no_cell)

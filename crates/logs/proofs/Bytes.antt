@@ -2,7 +2,7 @@
 use Rattle.std.proofs.Common.{◌≡◌, ℕ, ◌+◌, ◌/◌, ◌%◌, ◌<◌, Bool, true, false, cond, eqb, List, [], ◌∷◌, ◌++◌, length, drop, Ok, Err, Result, refl, ap, ◌∙◌, subst, mul_comm, arith}
 use native.Mathlib.Nat.{div-add-mod}
 use lib.Arith.{digits_div, digits_mod}
-use Rattle.std.specs.List.{AllByRecursion as All}
+use Rattle.std.specs.List.{AllByRecursion}
 use Rattle.std.proofs.lemmas.Bool.{and_parts, eqb-true}
 use Rattle.records.specs.declared.settings.Heading.{Heading}
 use Rattle.records.specs.Faults.{Fault}
@@ -28,7 +28,7 @@ mark_is m n x y q = let p = and_parts (eqb x m) (eqb y n) q in (eqb-true x m p.0
 abbrev Starts : List ℕ → Entry → Type 0
 Starts bs e = bs ≡ bytes_of e ++ drop (length (bytes_of e)) bs
 
-head_back : (f : Fault) (x y : ℕ) (rest : List ℕ) (e : Entry) → All (λ b. b < 256) rest → (x ≡ 0x48) × (y ≡ 0x43) → head_after rest f ≡ Ok e → Starts (x ∷ y ∷ rest) e
+head_back : (f : Fault) (x y : ℕ) (rest : List ℕ) (e : Entry) → AllByRecursion (λ b. b < 256) rest → (x ≡ 0x48) × (y ≡ 0x43) → head_after rest f ≡ Ok e → Starts (x ∷ y ∷ rest) e
 head_back f x y (c ∷ p ∷ h ∷ l ∷ zs) e o m q =
     let s = o.1.1.1.0 in
     let u = high_byte h l s in
@@ -40,7 +40,7 @@ head_back f x y (_ ∷ []) e o m q = let z : ◌≡◌ {A = ℕ} 0 1 = cc in abs
 head_back f x y (_ ∷ _ ∷ []) e o m q = let z : ◌≡◌ {A = ℕ} 0 1 = cc in absurd (omega arith)
 head_back f x y (_ ∷ _ ∷ _ ∷ []) e o m q = let z : ◌≡◌ {A = ℕ} 0 1 = cc in absurd (omega arith)
 
-arc_back : (f : Fault) (x y : ℕ) (rest : List ℕ) (e : Entry) → All (λ b. b < 256) rest → (x ≡ 0x41) × (y ≡ 0x52) → arc_after rest f ≡ Ok e → Starts (x ∷ y ∷ rest) e
+arc_back : (f : Fault) (x y : ℕ) (rest : List ℕ) (e : Entry) → AllByRecursion (λ b. b < 256) rest → (x ≡ 0x41) × (y ≡ 0x52) → arc_after rest f ≡ Ok e → Starts (x ∷ y ∷ rest) e
 arc_back f x y (i ∷ a ∷ b ∷ c ∷ d ∷ zs) e o m q =
     let s = o.1.1.0 in
     let t = o.1.1.1.1.0 in
@@ -56,7 +56,7 @@ arc_back f x y (_ ∷ _ ∷ []) e o m q = let z : ◌≡◌ {A = ℕ} 0 1 = cc i
 arc_back f x y (_ ∷ _ ∷ _ ∷ []) e o m q = let z : ◌≡◌ {A = ℕ} 0 1 = cc in absurd (omega arith)
 arc_back f x y (_ ∷ _ ∷ _ ∷ _ ∷ []) e o m q = let z : ◌≡◌ {A = ℕ} 0 1 = cc in absurd (omega arith)
 
-end_back : (f : Fault) (x y : ℕ) (rest : List ℕ) (e : Entry) → All (λ b. b < 256) rest → (x ≡ 0x45) × (y ≡ 0x44) → end_after rest f ≡ Ok e → Starts (x ∷ y ∷ rest) e
+end_back : (f : Fault) (x y : ℕ) (rest : List ℕ) (e : Entry) → AllByRecursion (λ b. b < 256) rest → (x ≡ 0x45) × (y ≡ 0x44) → end_after rest f ≡ Ok e → Starts (x ∷ y ∷ rest) e
 end_back f x y (a ∷ b ∷ c ∷ d ∷ zs) e o m q =
     let s = o.1.0 in
     let t = o.1.1.1.0 in
@@ -77,14 +77,14 @@ module _ (core at : ℕ) (x y : ℕ) (rest : List ℕ) where
   picked b₁ b₂ b₃ =
       cond b₁ (head_after rest (broken 1 core at 1)) (cond b₂ (arc_after rest (broken 1 core at 1)) (cond b₃ (end_after rest (broken 1 core at 1)) (Err (broken 1 core at 2))))
 
-  pick_back : (e : Entry) → All (λ b. b < 256) rest → (b₁ : Bool) → marked 0x48 0x43 x y ≡ b₁ → (b₂ : Bool) → marked 0x41 0x52 x y ≡ b₂ → (b₃ : Bool) → marked 0x45 0x44 x y ≡ b₃ →
+  pick_back : (e : Entry) → AllByRecursion (λ b. b < 256) rest → (b₁ : Bool) → marked 0x48 0x43 x y ≡ b₁ → (b₂ : Bool) → marked 0x41 0x52 x y ≡ b₂ → (b₃ : Bool) → marked 0x45 0x44 x y ≡ b₃ →
       picked b₁ b₂ b₃ ≡ Ok e → Starts (x ∷ y ∷ rest) e
   pick_back e o true m₁ b₂ m₂ b₃ m₃ q = head_back (broken 1 core at 1) x y rest e o (mark_is 0x48 0x43 x y m₁) q
   pick_back e o false m₁ true m₂ b₃ m₃ q = arc_back (broken 1 core at 1) x y rest e o (mark_is 0x41 0x52 x y m₂) q
   pick_back e o false m₁ false m₂ true m₃ q = end_back (broken 1 core at 1) x y rest e o (mark_is 0x45 0x44 x y m₃) q
   pick_back e o false m₁ false m₂ false m₃ q = let z : ◌≡◌ {A = ℕ} 0 1 = cc in absurd (omega arith)
 
-pub written_back : (core at : ℕ) (bs : List ℕ) (e : Entry) → All (λ b. b < 256) bs → entry_at core at bs ≡ Ok e → bs ≡ bytes_of e ++ drop (length (bytes_of e)) bs
+pub written_back : (core at : ℕ) (bs : List ℕ) (e : Entry) → AllByRecursion (λ b. b < 256) bs → entry_at core at bs ≡ Ok e → bs ≡ bytes_of e ++ drop (length (bytes_of e)) bs
 written_back core at [] e o q = let z : ◌≡◌ {A = ℕ} 0 1 = cc in absurd (omega arith)
 written_back core at (x ∷ []) e o q = let z : ◌≡◌ {A = ℕ} 0 1 = cc in absurd (omega arith)
 written_back core at (x ∷ y ∷ rest) e o q =

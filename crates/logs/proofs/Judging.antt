@@ -1,6 +1,6 @@
 -- Reading a log to its end or first fault: the whole log holds, or the records before the fault are lawful and what stands there breaks the named cause.
 use Rattle.std.proofs.Common.{◌≡◌, ℕ, zero, suc, ◌+◌, ◌-◌, ◌/◌, ◌<◌, ◌≤◌, Bool, true, false, cond, ◌&&◌, eqb, leb, List, [], ◌∷◌, ◌++◌, map, length, drop, set, Some, Ok, Err, Result, sym, refl, ap, ◌∙◌, subst, inl, inr, arith}
-use Rattle.std.specs.List.{AllByRecursion as All}
+use Rattle.std.specs.List.{AllByRecursion}
 use Rattle.std.proofs.ByRecursion.{All-drop}
 use Rattle.std.proofs.lemmas.List.{drop-drop, append_assoc, append-nil, length-append, length-drop}
 use Rattle.std.proofs.lemmas.Bool.{and_parts, eqb-true, eqb-false, leb-true, leb-false}
@@ -77,9 +77,9 @@ module _ (g : Heading) (log : List ℕ) where
       )
 
 -- the number of arcs that an end record read from bytes can say
-end_small : (core at : ℕ) (bs : List ℕ) (n k : ℕ) → All (λ b. b < 256) bs → entry_at core at bs ≡ Ok (end n k) → k < 65536
+end_small : (core at : ℕ) (bs : List ℕ) (n k : ℕ) → AllByRecursion (λ b. b < 256) bs → entry_at core at bs ≡ Ok (end n k) → k < 65536
 end_small core at bs n k o q =
-    let h = subst (All (λ b. b < 256)) (written_back core at bs (end n k) o q) o in
+    let h = subst (AllByRecursion (λ b. b < 256)) (written_back core at bs (end n k) o q) o in
     let high : k / 256 < 256 = h.1.1.1.1.0 in
     omega arith
 
@@ -93,7 +93,7 @@ bad_ending xs last latest m n k w small true q₁ false q₂ h =
     ]
 bad_ending xs last latest m n k w small true q₁ true q₂ h = let z : ◌≡◌ {A = ℕ} 0 1 = cc in absurd (omega arith)
 
-module _ (g : Heading) (log : List ℕ) (four : g.cores ≤ 4) (octets : All (λ b. b < 256) log) where
+module _ (g : Heading) (log : List ℕ) (four : g.cores ≤ 4) (octets : AllByRecursion (λ b. b < 256) log) where
   -- the bytes of a record that was read where the reader stands
   stands_here : (es : List Entry) (e : Entry) → entry_at g.core (length (written es)) (drop (length (written es)) log) ≡ Ok e →
       drop (length (written es)) log ≡ bytes_of e ++ drop (length (bytes_of e)) (drop (length (written es)) log)

@@ -1,6 +1,6 @@
 -- A log that is written by the rules is read as it was written, arc by arc, and held to the instructions of every core up to the first arc from beyond.
 use Rattle.std.proofs.Common.{◌≡◌, ℕ, zero, suc, ◌+◌, ◌/◌, ◌<◌, ◌≤◌, Bool, true, false, cond, eqb, ltb, leb, ◌⊎◌, List, [], ◌∷◌, ◌++◌, map, length, get_or, drop, set, Some, Ok, Err, Result, sym, refl, ap, ◌∙◌, subst, inl, inr, arith}
-use Rattle.std.specs.List.{AllByRecursion as All}
+use Rattle.std.specs.List.{AllByRecursion}
 use Rattle.std.proofs.ByRecursion.{All-drop}
 use Rattle.std.proofs.lemmas.List.{drop-drop, drop_at, append_assoc, append-nil, length-append, length_push}
 use Rattle.std.proofs.lemmas.Bool.{and_from, eq-eqb, le-leb, ltb-true, ltb-false}
@@ -18,7 +18,7 @@ use Rattle.logs.proofs.Judging.{written_append, front_push, push_size}
 use Rattle.logs.proofs.Rules.{Knows, knows_none, knows_push, stands_follows, fails_breaks, lawful_at, never_both, all_push}
 
 -- an arc that may follow breaks no rule
-bad_never : (g : Heading) (xs : List LogArc) (a : LogArc) → Stands g a → All (λ b. Behind b a) xs → BadArc g xs a → ⊥
+bad_never : (g : Heading) (xs : List LogArc) (a : LogArc) → Stands g a → AllByRecursion (λ b. Behind b a) xs → BadArc g xs a → ⊥
 bad_never g xs a s h (no_such_core q) = omega (arith, s.core)
 bad_never g xs a s h (own_core q) = s.other q
 bad_never g xs a s h (no_source_count q) = omega (arith, s.from)
@@ -26,7 +26,7 @@ bad_never g xs a s h (no_target_count q) = omega (arith, s.to)
 bad_never g xs a s h (target_falls q) = never_both (λ b. Behind b a) (λ b. a.target < b.target) xs (λ b p r. omega (arith, p.order)) h q
 bad_never g xs a s h (source_twice q) = never_both (λ b. Behind b a) (λ b. (b.target ≡ a.target) × (b.source ≡ a.source)) xs (λ b p r. p.once r.0 r.1) h q
 
-all_any : (P Q : LogArc → Type 0) (R : Type 0) (xs : List LogArc) → ((x : LogArc) → P x → Q x → R) → All P xs → Any Q xs → R
+all_any : (P Q : LogArc → Type 0) (R : Type 0) (xs : List LogArc) → ((x : LogArc) → P x → Q x → R) → AllByRecursion P xs → Any Q xs → R
 all_any P Q R [] f h k = absurd k
 all_any P Q R (x ∷ xs) f h (inl k) = f x h.0 k
 all_any P Q R (x ∷ xs) f h (inr k) = all_any P Q R xs f h.1 k
@@ -41,7 +41,7 @@ module _ (g : Heading) (log : List ℕ) (n k : ℕ) where
   Path v (a ∷ more) = (t : State) × (look v ≡ Ok (Some (arc a, t))) × Path (moved v (arc a) t) more
 
   module _ (four : g.cores ≤ 4) (few : k ≤ 65535) (rest : List ℕ) where
-    pub path_from : (before more : List LogArc) (c last : ℕ) (latest : List ℕ) (m : ℕ) → Knows before last latest m → Lawful g (before ++ more) → All (λ b. b.target ≤ n) before → All (λ b. b.target ≤ n) more →
+    pub path_from : (before more : List LogArc) (c last : ℕ) (latest : List ℕ) (m : ℕ) → Knows before last latest m → Lawful g (before ++ more) → AllByRecursion (λ b. b.target ≤ n) before → AllByRecursion (λ b. b.target ≤ n) more →
         length before + length more ≡ k → drop c log ≡ written (map arc more ++ (end n k ∷ [])) ++ rest → Path (at c (Among last latest m)) more
     path_from before [] c last latest m w l r₁ r₂ size here =
         let low : last ≤ n = elim w.last_is [
@@ -71,7 +71,7 @@ module _ (g : Heading) (log : List ℕ) (n k : ℕ) where
               (sym (drop-drop 7 c log) ∙ ap (drop 7) here'),
         )
       where
-        test : Stands g a × All (λ b. Behind b a) before → (b : Bool) → arc_stands g last latest a.source a.count a.target ≡ b → arc_stands g last latest a.source a.count a.target ≡ true
+        test : Stands g a × AllByRecursion (λ b. Behind b a) before → (b : Bool) → arc_stands g last latest a.source a.count a.target ≡ b → arc_stands g last latest a.source a.count a.target ≡ true
         test p true q = q
         test p false q = absurd (bad_never g before a p.0 p.1 (fails_breaks before last latest m w a g q))
 
@@ -172,13 +172,13 @@ module _ (g : Heading) (log : List ℕ) (arcs : List LogArc) (n : ℕ) (four : g
       (path_held g log n (length arcs) counts (length log) 6 (Among 0 no_targets 0) [] arcs size refl path)
 
 -- a log of bytes has no more arcs than its end record can say
-pub holds_few : (g : Heading) (log : List ℕ) (arcs : List LogArc) (n : ℕ) → All (λ b. b < 256) log → Holds g log arcs n → length arcs ≤ 65535
+pub holds_few : (g : Heading) (log : List ℕ) (arcs : List LogArc) (n : ℕ) → AllByRecursion (λ b. b < 256) log → Holds g log arcs n → length arcs ≤ 65535
 holds_few g log arcs n octets o =
     let es = front g arcs in
     let e = end n (length arcs) in
     let d : drop (length (written es)) log ≡ bytes_of e ++ o.rest =
     ap (drop (length (written es))) (o.bytes ∙ ap (λ x. x ++ o.rest) (written_append es (e ∷ [])) ∙ append_assoc (written es) (bytes_of e ++ []) o.rest)
     ∙ drop_at (written es) (bytes_of e ++ o.rest) (length (written es)) refl in
-    let h = subst (All (λ b. b < 256)) d (All-drop (λ b. b < 256) (length (written es)) log octets) in
+    let h = subst (AllByRecursion (λ b. b < 256)) d (All-drop (λ b. b < 256) (length (written es)) log octets) in
     let high : length arcs / 256 < 256 = h.1.1.1.1.0 in
     omega arith

@@ -1,6 +1,6 @@
 -- The reader's state stands for the arcs read so far, and its test of the next arc decides whether that arc may follow them.
 use Rattle.std.proofs.Common.{◌≡◌, ℕ, zero, suc, ◌<◌, ◌≤◌, min, Bool, true, false, not, ◌&&◌, eqb, ltb, leb, ◌⊎◌, List, [], ◌∷◌, ◌++◌, length, get_or, set, sym, refl, ap, ◌∙◌, inl, inr, arith}
-use Rattle.std.specs.List.{AllByRecursion as All}
+use Rattle.std.specs.List.{AllByRecursion}
 use Rattle.std.proofs.lemmas.List.{get_or-set_same, get_or-set_other, length-set, length_push}
 use Rattle.std.proofs.lemmas.Bool.{and_parts, eqb-true, eqb-false, ltb-true, ltb-false, leb-true, leb-false, not-true, cases_eq}
 use Rattle.records.specs.declared.settings.Heading.{Heading}
@@ -9,15 +9,15 @@ use Rattle.records.specs.Reading.{arc_stands, one_more, no_targets}
 use Rattle.logs.specs.Lawful.{Any, Stands, Behind, Lawful, BadArc, no_such_core, own_core, no_source_count, no_target_count, target_falls, source_twice}
 
 -- all and any, of one arc more
-pub all_push : (P : LogArc → Type 0) (xs : List LogArc) (a : LogArc) → All P xs → P a → All P (xs ++ (a ∷ []))
+pub all_push : (P : LogArc → Type 0) (xs : List LogArc) (a : LogArc) → AllByRecursion P xs → P a → AllByRecursion P (xs ++ (a ∷ []))
 all_push P [] a h p = (p, tt)
 all_push P (x ∷ xs) a h p = (h.0, all_push P xs a h.1 p)
 
-pub all_map : (P Q : LogArc → Type 0) (xs : List LogArc) → ((x : LogArc) → P x → Q x) → All P xs → All Q xs
+pub all_map : (P Q : LogArc → Type 0) (xs : List LogArc) → ((x : LogArc) → P x → Q x) → AllByRecursion P xs → AllByRecursion Q xs
 all_map P Q [] f h = tt
 all_map P Q (x ∷ xs) f h = (f x h.0, all_map P Q xs f h.1)
 
-all_both : (P Q R : LogArc → Type 0) (xs : List LogArc) → ((x : LogArc) → P x → Q x → R x) → All P xs → All Q xs → All R xs
+all_both : (P Q R : LogArc → Type 0) (xs : List LogArc) → ((x : LogArc) → P x → Q x → R x) → AllByRecursion P xs → AllByRecursion Q xs → AllByRecursion R xs
 all_both P Q R [] f h k = tt
 all_both P Q R (x ∷ xs) f h k = (f x h.0 k.0, all_both P Q R xs f h.1 k.1)
 
@@ -35,22 +35,22 @@ any_map P Q [] f h = h
 any_map P Q (x ∷ xs) f (inl h) = inl (f x h)
 any_map P Q (x ∷ xs) f (inr h) = inr (any_map P Q xs f h)
 
-pub never_both : (P Q : LogArc → Type 0) (xs : List LogArc) → ((x : LogArc) → P x → Q x → ⊥) → All P xs → Any Q xs → ⊥
+pub never_both : (P Q : LogArc → Type 0) (xs : List LogArc) → ((x : LogArc) → P x → Q x → ⊥) → AllByRecursion P xs → Any Q xs → ⊥
 never_both P Q [] f h k = k
 never_both P Q (x ∷ xs) f h (inl k) = f x h.0 k
 never_both P Q (x ∷ xs) f h (inr k) = never_both P Q xs f h.1 k
 
 -- an arc more that may follow
-pub lawful_push : (g : Heading) (xs : List LogArc) (a : LogArc) → Lawful g xs → Stands g a → All (λ b. Behind b a) xs → Lawful g (xs ++ (a ∷ []))
+pub lawful_push : (g : Heading) (xs : List LogArc) (a : LogArc) → Lawful g xs → Stands g a → AllByRecursion (λ b. Behind b a) xs → Lawful g (xs ++ (a ∷ []))
 lawful_push g [] a l s h = (s, tt, tt)
 lawful_push g (x ∷ xs) a l s h = (l.0, all_push (Behind x) xs a l.1 h.0, lawful_push g xs a l.2 s h.1)
 
 -- what lawful arcs say of the one behind a front
-pub lawful_at : (g : Heading) (xs : List LogArc) (a : LogArc) (more : List LogArc) → Lawful g (xs ++ (a ∷ more)) → Stands g a × All (λ b. Behind b a) xs
+pub lawful_at : (g : Heading) (xs : List LogArc) (a : LogArc) (more : List LogArc) → Lawful g (xs ++ (a ∷ more)) → Stands g a × AllByRecursion (λ b. Behind b a) xs
 lawful_at g [] a more l = (l.0, tt)
 lawful_at g (x ∷ xs) a more l = let h = lawful_at g xs a more l.2 in (h.0, (first xs l.1, h.1))
   where
-    first : (ys : List LogArc) → All (Behind x) (ys ++ (a ∷ more)) → Behind x a
+    first : (ys : List LogArc) → AllByRecursion (Behind x) (ys ++ (a ∷ more)) → Behind x a
     first [] h = h.0
     first (y ∷ ys) h = first ys h.1
 
@@ -59,9 +59,9 @@ pub record Knows (xs : List LogArc) (last : ℕ) (latest : List ℕ) (m : ℕ) :
   pub four : length latest ≡ 4
   pub number : m ≡ min (length xs) 65536
   pub last_is : (last ≡ 0) ⊎ Any (λ b. b.target ≡ last) xs
-  pub below : All (λ b. b.target ≤ last) xs
+  pub below : AllByRecursion (λ b. b.target ≤ last) xs
   pub latest_is : (i : ℕ) → (get_or latest i 0 ≡ 0) ⊎ Any (λ b. (b.target ≡ get_or latest i 0) × (b.source ≡ i)) xs
-  pub latest_top : All (λ b. b.target ≡ last → get_or latest b.source 0 ≡ last) xs
+  pub latest_top : AllByRecursion (λ b. b.target ≡ last → get_or latest b.source 0 ≡ last) xs
 
 none_there : (k : ℕ) → ◌≡◌ {A = ℕ} (get_or no_targets k 0) 0
 none_there zero = refl
@@ -106,7 +106,7 @@ module _ (xs : List LogArc) (last : ℕ) (latest : List ℕ) (m : ℕ) (k : Know
       ]
 
   -- the test passes: the arc may follow
-  pub stands_follows : (g : Heading) → arc_stands g last latest a.source a.count a.target ≡ true → Stands g a × (last ≤ a.target) × All (λ b. Behind b a) xs
+  pub stands_follows : (g : Heading) → arc_stands g last latest a.source a.count a.target ≡ true → Stands g a × (last ≤ a.target) × AllByRecursion (λ b. Behind b a) xs
   stands_follows g e =
       let p₁ = and_parts (ltb a.source g.cores) _ e in
       let p₂ = and_parts (not (eqb a.source g.core)) _ p₁.1 in

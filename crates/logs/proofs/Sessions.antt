@@ -1,6 +1,6 @@
 -- What reading all logs says is what the logs are: accepted exactly if they hold, and else the first fault.
 use Rattle.std.proofs.Common.{◌≡◌, ℕ, zero, suc, ◌+◌, ◌*◌, ◌<◌, ◌≤◌, Bool, true, false, cond, leb, ◌⊎◌, List, [], ◌∷◌, ◌++◌, length, get_or, drop, set, Ok, Err, Result, sym, refl, ap, ◌∙◌, subst, inl, inr, arith}
-use Rattle.std.specs.List.{AllByRecursion as All}
+use Rattle.std.specs.List.{AllByRecursion}
 use Rattle.std.proofs.lemmas.List.{get_or-set_same, get_or-set_other, length-set, ext_get_or}
 use Rattle.std.proofs.ByRecursion.{All-take, All-drop}
 use Rattle.std.proofs.lemmas.Bool.{cases_eq, cases_lt, and_parts, leb-true}
@@ -121,8 +121,8 @@ ok_err : {A : Type 0} (x : A) (f : Fault) → Ok x ≡ Err f → ⊥
 ok_err x f q = let c : ◌≡◌ {A = ℕ} 0 1 = cc in omega arith
 
 -- a session of bytes
-module _ (store : List ℕ) (z : Sizes) (octets : All (λ b. b < 256) store) (few : z.cores ≤ 4) where
-  pub log_octets : (j : ℕ) → All (λ b. b < 256) (log_of store z j)
+module _ (store : List ℕ) (z : Sizes) (octets : AllByRecursion (λ b. b < 256) store) (few : z.cores ≤ 4) where
+  pub log_octets : (j : ℕ) → AllByRecursion (λ b. b < 256) (log_of store z j)
   log_octets j = All-take (λ b. b < 256) z.log_bytes (drop (j * z.log_bytes) store) (All-drop (λ b. b < 256) (j * z.log_bytes) store octets)
 
   judged_log : (j : ℕ) → Judged (heading_of z j) (log_of store z j) (read_log store z j)
@@ -261,7 +261,7 @@ first_differs x y xs ys q n = let p : x ≡ y = cc in n p
 pub few_cores : (bytes : ℕ) (z : Sizes) → fits bytes z ≡ true → z.cores ≤ 4
 few_cores bytes z q = leb-true z.cores 4 (and_parts (leb z.cores 4) _ (and_parts (leb 1 z.cores) _ q).1).0
 
-module _ (store : List ℕ) (z : Sizes) (octets : All (λ b. b < 256) store) where
+module _ (store : List ℕ) (z : Sizes) (octets : AllByRecursion (λ b. b < 256) store) where
   when_fits : (few : z.cores ≤ 4) (r : Result (List ℕ) Fault) → Sessioned store z octets few r → fits (length store) z ≡ true → Exactly store z (outcome r)
   when_fits few r (inl (counts, q, a, one)) t = record {
     accepts = λ xs e. subst (Accepted store z) (same_counts counts xs (sym (ap outcome q) ∙ e)) a;

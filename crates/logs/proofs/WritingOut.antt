@@ -2,7 +2,7 @@
 use Rattle.std.proofs.Common.{◌≡◌, ℕ, zero, suc, ◌+◌, ◌-◌, ◌*◌, ◌<◌, ◌≤◌, Bool, true, false, cond, ◌&&◌, ltb, leb, List, [], ◌∷◌, ◌++◌, length, get_or, take, drop, Ok, Err, Result, sym, refl, ap, ◌∙◌, subst, inl, inr, mul-le-mul_right, suc-mul, zero-add, arith}
 use Rattle.std.proofs.lemmas.List.{length-append, length-drop, length-take, take_at}
 use Rattle.std.proofs.lemmas.Bool.{and_from, and_parts, lt-ltb, le-leb, leb-true, cases_eq, cases_lt}
-use Rattle.std.specs.List.{AllByRecursion as All}
+use Rattle.std.specs.List.{AllByRecursion}
 use Rattle.records.specs.declared.settings.Sizes.{Sizes}
 use Rattle.records.specs.Faults.{Fault, bad_setting}
 use Rattle.records.specs.Format.{Entry, bytes_of, written, splice}
@@ -86,7 +86,7 @@ module _ (z : Sizes) (j : ℕ) (bs out : List ℕ) (room : length bs ≤ z.log_b
   ]
 
 -- an accepted session, log by log
-module _ (store : List ℕ) (z : Sizes) (octets : All (λ b. b < 256) store) (few : z.cores ≤ 4) (counts : List ℕ) (a : Accepted store z counts) where
+module _ (store : List ℕ) (z : Sizes) (octets : AllByRecursion (λ b. b < 256) store) (few : z.cores ≤ 4) (counts : List ℕ) (a : Accepted store z counts) where
   abbrev bytes : ℕ → List ℕ
   bytes j = written (whole (heading_of z j) (a.arcs j) (get_or counts j 0))
 
@@ -154,7 +154,7 @@ room_in bytes z q =
     let p₆ = (and_parts (leb z.log_bytes 16384) _ p₅).1 in
     leb-true (z.cores * z.log_bytes) bytes p₆
 
-pub write_restores : (store : List ℕ) (z : Sizes) (out : List ℕ) → All (λ b. b < 256) store → (write_session store z out).says ≡ 0 ∷ [] → Restored store z out (write_session store z out).store
+pub write_restores : (store : List ℕ) (z : Sizes) (out : List ℕ) → AllByRecursion (λ b. b < 256) store → (write_session store z out).says ≡ 0 ∷ [] → Restored store z out (write_session store z out).store
 write_restores store z out octets = go (fits (length out) z) refl (fits (length store) z) refl (session store z) refl
   where
     go : (b₁ : Bool) → fits (length out) z ≡ b₁ → (b₂ : Bool) → fits (length store) z ≡ b₂ → (r : Result (List ℕ) Fault) → session store z ≡ r →

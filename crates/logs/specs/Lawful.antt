@@ -1,6 +1,6 @@
 -- The rules of a log, and of all logs together, in words: relations on records and those before them.
 use Rattle.std.specs.Prelude.{◌≡◌, ℕ, ◌<◌, ◌≤◌, true, false, ◌⊎◌, List, [], ◌∷◌, ◌++◌, map, length, Ok, Err, ◌≢◌, slice_index}
-use Rattle.std.specs.List.{AllByRecursion as All}
+use Rattle.std.specs.List.{AllByRecursion}
 use Rattle.records.specs.declared.settings.Sizes.{Sizes}
 use Rattle.records.specs.declared.settings.Heading.{Heading}
 use Rattle.records.specs.Faults.{Fault, bad_setting, log_fault}
@@ -28,7 +28,7 @@ pub record Behind (a b : LogArc) : Type 0 where
 -- arcs that obey the rules in order
 abbrev pub Lawful : Heading → List LogArc → Type 0
 Lawful g [] = Unit {0}
-Lawful g (a ∷ more) = Stands g a × All (Behind a) more × Lawful g more
+Lawful g (a ∷ more) = Stands g a × AllByRecursion (Behind a) more × Lawful g more
 
 -- a head with the right fields, then arcs
 abbrev pub front : Heading → List LogArc → List Entry
@@ -41,7 +41,7 @@ whole g arcs n = front g arcs ++ (end n (length arcs) ∷ [])
 -- the bytes are a log of these arcs and n instructions, then anything
 pub record Holds (g : Heading) (log : List ℕ) (arcs : List LogArc) (n : ℕ) : Type 0 where
   pub lawful : Lawful g arcs
-  pub reached : All (λ a. a.target ≤ n) arcs
+  pub reached : AllByRecursion (λ a. a.target ≤ n) arcs
   pub rest : List ℕ
   pub bytes : log ≡ written (whole g arcs n) ++ rest
 
@@ -90,7 +90,7 @@ pub record Broken (g : Heading) (log : List ℕ) (before : List Entry) (f : Faul
 
 -- no arc comes from beyond its source core's instructions
 abbrev pub Within : List ℕ → List LogArc → Type 0
-Within counts arcs = All (λ a. a.count ≤ slice_index counts a.source) arcs
+Within counts arcs = AllByRecursion (λ a. a.count ≤ slice_index counts a.source) arcs
 
 -- core j's log holds these arcs, and as many instructions as counted
 abbrev pub LogHolds : List ℕ → Sizes → List ℕ → (ℕ → List LogArc) → ℕ → Type 0

@@ -1,6 +1,6 @@
 -- A log that is written by the rules reads back as what was written; a log worked through.
 use Rattle.std.specs.Prelude.{◌≡◌, ℕ, ◌≤◌, List, [], ◌∷◌, ◌++◌, length, Ok}
-use Rattle.std.specs.List.{AllByRecursion as All}
+use Rattle.std.specs.List.{AllByRecursion}
 use Rattle.records.specs.declared.settings.Heading.{Heading}
 use Rattle.records.specs.Format.{LogArc, written}
 use Rattle.logs.specs.Lawful.{Lawful, whole}
@@ -8,7 +8,7 @@ use Rattle.logs.specs.Walk.{reading_from, at_front}
 
 -- head, any arcs that obey the rules, end, then any bytes
 abbrev pub ReadsBack : Type 0
-ReadsBack = (g : Heading) (arcs : List LogArc) (n : ℕ) (behind : List ℕ) → g.cores ≤ 4 → length arcs ≤ 65535 → Lawful g arcs → All (λ a. a.target ≤ n) arcs →
+ReadsBack = (g : Heading) (arcs : List LogArc) (n : ℕ) (behind : List ℕ) → g.cores ≤ 4 → length arcs ≤ 65535 → Lawful g arcs → AllByRecursion (λ a. a.target ≤ n) arcs →
     reading_from (at_front g (written (whole g arcs n) ++ behind)) ≡ record { entries = whole g arcs n; verdict = Ok n }
 
 -- core 1's log of three cores and two cells: one arc, from 0:1 to 1:1, and two instructions

@@ -1,7 +1,7 @@
 -- The store, log by log: head, arcs and end, and behind them the bytes that were there before.
 use Rattle.std.specs.Prelude.{◌≡◌, ℕ, ◌+◌, ◌*◌, ◌<◌, ◌≤◌, true, cond, List, [], ◌++◌, length, drop, ◌==◌}
 use Rattle.accesses.specs.declared.history.CellHistory.{CellHistory}
-use Rattle.cores.specs.declared.core.Request.{Request}
+use Rattle.cores.specs.declared.interface.Request.{Request}
 use Rattle.logs.specs.Lawful.{front, whole}
 use Rattle.recorder.specs.Refusals.{log_in, barred, started}
 use Rattle.recorder.specs.Turns.{Tape, new_arcs, entered, headed_from}

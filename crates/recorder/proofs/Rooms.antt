@@ -9,7 +9,7 @@ use Rattle.accesses.specs.declared.access.Access.{Access}
 use Rattle.accesses.specs.declared.access.Candidate.{Candidate}
 use Rattle.accesses.specs.declared.history.CellHistory.{CellHistory}
 use Rattle.cores.specs.Acting.{within}
-use Rattle.cores.specs.declared.core.Request.{Request}
+use Rattle.cores.specs.declared.interface.Request.{Request}
 use Rattle.records.proofs.Splices.{splice_splice}
 use Rattle.records.specs.Format.{head, arc, end, bytes_of, written, splice}
 use Rattle.records.specs.Settings.{fits}

@@ -5,7 +5,7 @@ use Rattle.std.proofs.lemmas.Bool.{cond-true, cond-false, eq-eqb, ne_eqb, le-leb
 use Rattle.std.proofs.lemmas.Bool.Decides.{nat_tests}
 use Rattle.cores.specs.Acting.{requested, within}
 use Rattle.cores.specs.Memory.{Rules, brought, stored}
-use Rattle.cores.specs.declared.core.Request.{Request}
+use Rattle.cores.specs.declared.interface.Request.{Request}
 use Rattle.records.specs.Settings.{fits, settled}
 use Rattle.records.specs.declared.settings.Sizes.{Sizes}
 use Rattle.reducers.specs.Numbers.{Numbers}

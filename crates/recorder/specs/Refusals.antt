@@ -1,8 +1,8 @@
 -- The recorder's sizes, counts and places, and which turns are refused.
 use Rattle.std.specs.Prelude.{ℕ, ◌+◌, ◌-◌, ◌*◌, Bool, true, false, cond, List, replicate, Some, None, Option, ◌==◌, nat_lt, slice_index_or, slice_set}
 use Rattle.cores.specs.Acting.{within}
-use Rattle.cores.specs.declared.core.Request.{Request}
-use Rattle.cores.specs.declared.core.Request.TheVariants.{Halt, Local, Read, Write, Exchange}
+use Rattle.cores.specs.declared.interface.Request.{Request}
+use Rattle.cores.specs.declared.interface.Request.TheVariants.{Halt, Local, Read, Write, Exchange}
 use Rattle.records.specs.declared.settings.Sizes.{Sizes}
 use Rattle.reducers.specs.declared.interface.AccessKind.TheVariants.{Read as reads, Write as writes}
 use Rattle.recorder.specs.declared.ledger.Ledger.{Ledger}

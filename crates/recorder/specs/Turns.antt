@@ -6,7 +6,7 @@ use Rattle.accesses.specs.declared.access.Candidate.{Candidate}
 use Rattle.accesses.specs.declared.history.CellHistory.{CellHistory}
 use Rattle.cores.specs.Acting.{request_numbers, OthersKept}
 use Rattle.cores.specs.Memory.{Rules, brought, stored}
-use Rattle.cores.specs.declared.core.Request.{Request}
+use Rattle.cores.specs.declared.interface.Request.{Request}
 use Rattle.logs.specs.Lawful.{whole}
 use Rattle.records.specs.Format.{LogArc, arc, end, written, splice}
 use Rattle.records.specs.Settings.{heading_of, settled}

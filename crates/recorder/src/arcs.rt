@@ -26,8 +26,8 @@ pub(crate) fn append(
     offset: usize,
     record: Record,
 ) -> usize
-    requires sizes_value { (fits (length store.old) sizes ≡ true) × (core < sizes.cores) }
-    requires record_bound { offset + length (bytes_of (entry «record»)) ≤ sizes.log_bytes }
+    requires fitting { (fits (length store.old) sizes ≡ true) × (core < sizes.cores) }
+    requires room { offset + length (bytes_of (entry «record»)) ≤ sizes.log_bytes }
     ensures place { result ≡ offset + length (bytes_of (entry «record»)) }
     ensures bytes { store.new ≡ splice (core * sizes.log_bytes + offset) (bytes_of (entry «record»)) store.old }
 {
@@ -47,8 +47,8 @@ fn log_one<R: Reducer>(
     cell: usize,
     by: Access,
 ) -> Tail
-    requires sizes_value { (fits (length store.old) sizes ≡ true) × (by.core < sizes.cores) }
-    requires candidate_bound { (tail.offset + 7 * one candidate ≤ sizes.log_bytes) × (tail.arcs < 65535) }
+    requires fitting { (fits (length store.old) sizes ≡ true) × (by.core < sizes.cores) }
+    requires room { (tail.offset + 7 * one candidate ≤ sizes.log_bytes) × (tail.arcs < 65535) }
     ensures judged { Steps R.Reducer.meets cell by.core (R.Reducer.numbers reducer.old) candidate (R.Reducer.numbers reducer.new) }
     ensures bytes { store.new ≡ splice (by.core * sizes.log_bytes + tail.offset) (written (map arc_entry (fresh by (R.Reducer.numbers reducer.old) candidate))) store.old }
     ensures tail { result ≡ moved tail (fresh by (R.Reducer.numbers reducer.old) candidate) }
@@ -83,8 +83,8 @@ pub(crate) fn log_arcs<R: Reducer>(
     cell: usize,
     by: Access,
 ) -> Tail
-    requires sizes_value { (fits (length store.old) sizes ≡ true) × (by.core < sizes.cores) }
-    requires candidates_bound { (tail.offset + 7 * present candidates ≤ sizes.log_bytes) × (tail.arcs + 3 ≤ 65535) }
+    requires fitting { (fits (length store.old) sizes ≡ true) × (by.core < sizes.cores) }
+    requires room { (tail.offset + 7 * present candidates ≤ sizes.log_bytes) × (tail.arcs + 3 ≤ 65535) }
     ensures { Logged R.Reducer.meets sizes cell by (R.Reducer.numbers reducer.old) candidates (R.Reducer.numbers reducer.new) tail store.old result store.new }
 {
     let mut tail = tail;

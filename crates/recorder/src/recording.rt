@@ -13,7 +13,7 @@ use crate::rules::{Refusal, touch_of};
 use accesses::access::Access;
 use accesses::history::History;
 use cores::acting::{act, request_of, tell_core};
-use cores::core::{Core, Request};
+use cores::interface::{Core, Request};
 use records::format::Record;
 use records::settings::{Sizes, buffers_hold};
 use reducers::interface::Reducer;
@@ -29,8 +29,8 @@ pub struct Recorded {
 
 // Writes the end record of the log of `core`, whose tail says where and how many arcs.
 fn end_log(store: &mut [u8], sizes: Sizes, core: usize, tail: Tail, instructions: u16)
-    requires sizes_value { (fits (length store.old) sizes ≡ true) × (core < sizes.cores) }
-    requires offset_bound { tail.offset + 6 ≤ sizes.log_bytes }
+    requires fitting { (fits (length store.old) sizes ≡ true) × (core < sizes.cores) }
+    requires room { tail.offset + 6 ≤ sizes.log_bytes }
     ensures { store.new ≡ splice (core * sizes.log_bytes + tail.offset) (bytes_of (end_entry instructions tail.arcs)) store.old }
 {
     let end = Record::End {
@@ -74,8 +74,8 @@ fn log_access<R: Reducer>(
     request: Request,
     by: Access,
 ) -> Tail
-    requires sizes_value { (fits (length store.old) sizes ≡ true) × (by.core < sizes.cores) }
-    requires request_bound { (tail.offset + 7 * present (candidates_for sizes.cores history.old.cells by.core (touched request)) ≤ sizes.log_bytes) × (tail.arcs + 3 ≤ 65535) }
+    requires fitting { (fits (length store.old) sizes ≡ true) × (by.core < sizes.cores) }
+    requires room { (tail.offset + 7 * present (candidates_for sizes.cores history.old.cells by.core (touched request)) ≤ sizes.log_bytes) × (tail.arcs + 3 ≤ 65535) }
     ensures logged { Accessed R.Reducer.meets sizes history.old.cells by (touched request) (R.Reducer.numbers reducer.old) (R.Reducer.numbers reducer.new) tail store.old result store.new }
     ensures remembered { history.new.cells ≡ remembered_as history.old.cells by (touched request) }
 {
@@ -141,8 +141,8 @@ impl<R: Reducer> Recorder<R> {
     // Records that core `j` goes on with `request`: its arcs, its count and its end record.
     // Gives the count, and how many arcs were logged.
     fn enter(&mut self, store: &mut [u8], j: usize, request: Request) -> (u16, u16)
-        requires sizes_value { (fits (length store.old) self.old.ledger.sizes ≡ true) × (j < self.old.ledger.sizes.cores) }
-        requires request_value { barred (book self.old.ledger) j request ≡ 0 }
+        requires fitting { (fits (length store.old) self.old.ledger.sizes ≡ true) × (j < self.old.ledger.sizes.cores) }
+        requires unbarred { barred (book self.old.ledger) j request ≡ 0 }
         ensures count { result.0 ≡ (log_in (book self.old.ledger) j).instructions + 1 }
         ensures entered { Entered R.Reducer.meets (tape R.Reducer.numbers self.old store.old) j request result.1 (tape R.Reducer.numbers self.new store.new) }
     {

@@ -5,7 +5,7 @@ ghost use Rattle.recorder.specs.Refusals.{book, touched, barred, code, counted_i
 
 use crate::ledger::{Ledger, Log};
 use cores::acting::cell_exists;
-use cores::core::Request;
+use cores::interface::Request;
 use records::settings::Sizes;
 use reducers::interface::AccessKind;
 
@@ -87,9 +87,9 @@ impl Ledger {
 
     // Counts one more instruction of core `j`, whose log now has so many arcs and its end record there.
     pub(crate) fn count(&mut self, j: usize, arcs: u16, end: usize)
-        requires j_lt_cores { (j < self.old.sizes.cores) × (self.old.sizes.cores ≤ 4) }
-        requires no_log_bound { (slice_index_or self.old.logs j no_log).instructions < 65535 }
-        requires arcs_bound { (6 + 7 * arcs ≤ end) × (end + 6 ≤ self.old.sizes.log_bytes) }
+        requires inside { (j < self.old.sizes.cores) × (self.old.sizes.cores ≤ 4) }
+        requires unspent { (slice_index_or self.old.logs j no_log).instructions < 65535 }
+        requires room { (6 + 7 * arcs ≤ end) × (end + 6 ≤ self.old.sizes.log_bytes) }
         ensures { book self.new ≡ counted_in (book self.old) j arcs end }
     {
         let instructions = self.logs[j].instructions + 1;

@@ -2,7 +2,7 @@
 use Rattle.std.proofs.Common.{◌≡◌, ℕ, Bool, true, false, cond, ◌≢◌, List, [], ◌∷◌, ◌++◌, map, Some, None, Option, sym, refl, ap, ◌∙◌}
 use native.Mathlib.Decide.{ℕ_discrete}
 use Rattle.std.proofs.lemmas.List.{append_assoc, append-nil, map-append}
-use Rattle.std.specs.List.{AllByRecursion as All}
+use Rattle.std.specs.List.{AllByRecursion}
 use Rattle.accesses.specs.declared.access.Access.{Access}
 use Rattle.accesses.specs.declared.access.Candidate.{Candidate}
 use Rattle.records.specs.Format.{LogArc}
@@ -14,7 +14,7 @@ use Rattle.runs.specs.Runs.{Instr}
 use Rattle.recordings.specs.Tracks.{logged, to_log, logs_of}
 
 abbrev pub To : ℕ → List LogArc → Type 0
-To b more = All (λ a. a.target ≡ b) more
+To b more = AllByRecursion (λ a. a.target ≡ b) more
 
 to_append : (b : ℕ) (xs ys : List LogArc) → To b xs → To b ys → To b (xs ++ ys)
 to_append b [] ys p q = q

@@ -1,7 +1,7 @@
 -- The candidates that the recorder judges are judged as the theory says, and the arcs that it appends are those logged.
 use Rattle.std.proofs.Common.{◌≡◌, ℕ, ◌<◌, Bool, true, false, cond, ◌&&◌, leb, List, [], ◌∷◌, ◌++◌, Some, None, MatchBool, Option, sym, refl, ap, ◌∙◌, subst}
 use Rattle.std.proofs.lemmas.Bool.{and_from, lt-ltb, leb-true, leb-false, false≢true}
-use Rattle.std.specs.List.{AllByRecursion as All}
+use Rattle.std.specs.List.{AllByRecursion}
 use Rattle.accesses.specs.declared.access.Access.{Access}
 use Rattle.accesses.specs.declared.access.Candidate.{Candidate}
 use Rattle.access_laws.specs.Recalls.{as_run, given, access_to}
@@ -59,7 +59,7 @@ module _ (meets : Meets) (c j b : ℕ) (w : AccessKind) (mine : j < 4) (inside :
         subst (λ i. Judged meets e y (given (Some x ∷ xs)) n L (last_of m ms) (logged y (cond (known? i n x) [] (record { source = x.source.core; count = x.source.count; target = by.count } ∷ []) ++ arcs_to by m xs ms) L)) (sym core_is)
         (judged_by x (known? j n x) xs n m ms L h refl s rest)
 
-    pub judged_is : {xs : List (Option Candidate)} {n : Numbers} {trail : List Numbers} (L : List Arc) → All InRange xs → recorder.Judged meets c j n xs trail →
+    pub judged_is : {xs : List (Option Candidate)} {n : Numbers} {trail : List Numbers} (L : List Arc) → AllByRecursion InRange xs → recorder.Judged meets c j n xs trail →
         Judged meets e y (given xs) n L (last_of n trail) (logged y (arcs_to by n xs trail) L)
     judged_is L r none = none_left
     judged_is L r (then {n} {m} {x} {xs} {ms} s rest) = judged_on x xs n m ms L r.0 s (λ L. judged_is L r.1 rest)

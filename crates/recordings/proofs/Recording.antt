@@ -2,7 +2,7 @@
 use Rattle.std.proofs.Common.{◌≡◌, ℕ, ◌+◌, ◌<◌, ◌≤◌, true, false, ◌&&◌, ltb, List, [], ◌∷◌, get_or, set, Some, None, MatchBool, Option, sym, refl, ◌∙◌, subst, inl, inr, arith}
 use Rattle.std.proofs.lemmas.List.{length-set}
 use Rattle.std.proofs.lemmas.Bool.{and_from, lt-ltb, ltb-true, cases_lt, false≢true}
-use Rattle.std.specs.List.{AllByRecursion as All}
+use Rattle.std.specs.List.{AllByRecursion}
 use Rattle.accesses.specs.Histories.{candidates_at, remembering}
 use Rattle.accesses.specs.declared.access.Access.{Access}
 use Rattle.accesses.specs.declared.access.Candidate.{Candidate}
@@ -13,8 +13,8 @@ use Rattle.access_laws.specs.Recalls as recalls
 use Rattle.access_laws.specs.Recalls.{Recalls, given, access_to}
 use Rattle.cores.specs.Acting.{within}
 use Rattle.cores.specs.Memory.{Rules, brought, stored, outcome, plain, start}
-use Rattle.cores.specs.declared.core.Request.{Request}
-use Rattle.cores.specs.declared.core.Request.TheVariants.{Halt, Local, Read, Write, Exchange}
+use Rattle.cores.specs.declared.interface.Request.{Request}
+use Rattle.cores.specs.declared.interface.Request.TheVariants.{Halt, Local, Read, Write, Exchange}
 use Rattle.records.specs.Format.{LogArc}
 use Rattle.records.specs.declared.settings.Sizes.{Sizes}
 use Rattle.recorder.specs.Judged as judged
@@ -49,7 +49,7 @@ candidate_core r e P few y m =
     let g = given_met r e y.source.core y q in
     elim (cases_lt y.source.core P) [ inl h ↦ h | inr h ↦ absurd (omega (arith, g.some, g.inside, few y.source.core h)) ]
 
-in_range_all : (xs : List (Option Candidate)) → ((y : run_candidates.Candidate) → In y (given xs) → y.source.core < 4) → All InRange xs
+in_range_all : (xs : List (Option Candidate)) → ((y : run_candidates.Candidate) → In y (given xs) → y.source.core < 4) → AllByRecursion InRange xs
 in_range_all [] f = tt
 in_range_all (None ∷ xs) f = (tt, in_range_all xs f)
 in_range_all (Some x ∷ xs) f = (f _ (inl refl), in_range_all xs (λ y m. f y (inr m)))

@@ -5,8 +5,8 @@ use Rattle.std.proofs.lemmas.Bool.{and_parts, and_from, leb-true, lt-ltb, cases_
 use Rattle.access_laws.specs.Recalls as recalls
 use Rattle.cores.specs.Acting.{within}
 use Rattle.cores.specs.Memory.{Rules, Memory, brought, stored, able, outcome, effect, accepts, plain, start}
-use Rattle.cores.specs.declared.core.Request.{Request}
-use Rattle.cores.specs.declared.core.Request.TheVariants.{Halt, Local, Read, Write, Exchange}
+use Rattle.cores.specs.declared.interface.Request.{Request}
+use Rattle.cores.specs.declared.interface.Request.TheVariants.{Halt, Local, Read, Write, Exchange}
 use Rattle.records.specs.Settings.{fits}
 use Rattle.records.specs.declared.settings.Sizes.{Sizes}
 use Rattle.recorder.specs.Refusals.{log_in, counted_in}

@@ -2,7 +2,7 @@
 use Rattle.std.specs.Prelude.{◌≡◌, ℕ, ◌+◌, ◌-◌, ◌*◌, Bool, false, cond, not, List, length, Some, None, Option, ◌==◌, nat_le, nat_lt, slice_index}
 use Rattle.cores.specs.Acting.{within}
 use Rattle.cores.specs.Memory.{Rules, Memory, outcome, plain, start}
-use Rattle.cores.specs.declared.core.Request.{Request}
+use Rattle.cores.specs.declared.interface.Request.{Request}
 use Rattle.logs.specs.Lawful.{front}
 use Rattle.records.specs.Format.{LogArc, written}
 use Rattle.records.specs.Settings.{heading_of}

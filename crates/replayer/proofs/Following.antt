@@ -3,7 +3,7 @@ use Rattle.std.proofs.Common.{◌≡◌, ℕ, zero, suc, ◌+◌, ◌*◌, ◌<�
 use Rattle.std.proofs.lemmas.List.{get_or-set_same, get_or-set_other, length-set, length-append, length-take}
 use Rattle.std.proofs.lemmas.Bool.{lt-leb, lt-ltb, and_from, and_parts, cond-true, cond-false, cases_eq}
 use Rattle.std.proofs.lemmas.Bool.Decides.{nat_tests}
-use Rattle.cores.specs.declared.core.Request.{Request}
+use Rattle.cores.specs.declared.interface.Request.{Request}
 use Rattle.records.specs.declared.reading.SavedPlace.{SavedPlace}
 use Rattle.records.specs.declared.settings.Heading.{Heading}
 use Rattle.records.specs.declared.settings.Sizes.{Sizes}

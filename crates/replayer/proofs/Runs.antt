@@ -2,7 +2,7 @@
 use Rattle.std.proofs.Common.{◌≡◌, ℕ, zero, suc, ◌+◌, ◌-◌, ◌<◌, ◌≤◌, true, false, eqb, ◌≢◌, List, length, get_or, set, Ok, Err, Result, sym, refl, ap, ◌∙◌, subst, inl, inr, arith}
 use Rattle.std.proofs.lemmas.Bool.{eq-eqb, ne_eqb, cond-true, cond-false, and_parts, cases_eq}
 use Rattle.std.proofs.lemmas.List.{get_or-set_same, get_or-set_other, length-set}
-use Rattle.cores.specs.declared.core.Request.{Request}
+use Rattle.cores.specs.declared.interface.Request.{Request}
 use Rattle.records.specs.declared.reading.SavedPlace.{SavedPlace}
 use Rattle.records.specs.declared.settings.Sizes.{Sizes}
 use Rattle.records.specs.Faults.{bad_setting}

@@ -1,6 +1,6 @@
 -- A place of a log behind which known arcs stand: what is read from it on are those arcs.
 use Rattle.std.proofs.Common.{◌≡◌, ℕ, zero, suc, ◌+◌, ◌<◌, ◌≤◌, Bool, true, false, cond, eqb, ltb, leb, List, [], ◌∷◌, ◌++◌, length, get_or, Some, None, Ok, Err, Result, sym, refl, ap, ◌∙◌, subst, inl, inr, arith}
-use Rattle.std.specs.List.{AllByRecursion as All}
+use Rattle.std.specs.List.{AllByRecursion}
 use Rattle.std.proofs.lemmas.Bool.{eq-eqb, ne_eqb, le-leb, lt-leb, le-ltb, cond-true, cond-false, cases_eq, cases_lt}
 use Rattle.records.specs.declared.reading.SavedPlace.{SavedPlace}
 use Rattle.records.specs.declared.reading.State.{State}
@@ -30,15 +30,15 @@ module _ (t : ℕ) (a : LogArc) (more : List LogArc) where
   upto_past h = cond-false (leb a.target t) (a ∷ arcs_upto t more) (arcs_upto t more) (lt-leb a.target t h)
 
 -- behind an arc beyond d, all are beyond d
-all_beyond : (d : ℕ) (a : LogArc) (more : List LogArc) → d < a.target → All (Behind a) more → All (λ b. d < b.target) more
+all_beyond : (d : ℕ) (a : LogArc) (more : List LogArc) → d < a.target → AllByRecursion (Behind a) more → AllByRecursion (λ b. d < b.target) more
 all_beyond d a [] h l = tt
 all_beyond d a (b ∷ more) h l = (omega (arith, l.0.order), all_beyond d a more h l.1)
 
-none_upto : (d : ℕ) (arcs : List LogArc) → All (λ b. d < b.target) arcs → arcs_upto d arcs ≡ []
+none_upto : (d : ℕ) (arcs : List LogArc) → AllByRecursion (λ b. d < b.target) arcs → arcs_upto d arcs ≡ []
 none_upto d [] h = refl
 none_upto d (a ∷ more) h = upto_past d a more h.0 ∙ none_upto d more h.1
 
-none_to : (t : ℕ) (arcs : List LogArc) → All (λ b. t < b.target) arcs → arcs_to t arcs ≡ []
+none_to : (t : ℕ) (arcs : List LogArc) → AllByRecursion (λ b. t < b.target) arcs → arcs_to t arcs ≡ []
 none_to t [] h = refl
 none_to t (a ∷ more) h = to_other t a more (λ e. omega (arith, h.0)) ∙ none_to t more h.1
 
@@ -103,7 +103,7 @@ module _ (counts : List ℕ) (g : Heading) (log : List ℕ) (n k : ℕ) where
   abbrev reads : ℕ → ℕ → SavedPlace → Result Grouped Fault
   reads t f p = group (λ q. arc_seen counts (at_place g log q)) t f p
 
-  group_reads : (d f : ℕ) (p : SavedPlace) (rest : List LogArc) → length rest < f → Standing p rest → All (λ a. d < a.target) rest →
+  group_reads : (d f : ℕ) (p : SavedPlace) (rest : List LogArc) → length rest < f → Standing p rest → AllByRecursion (λ a. d < a.target) rest →
       group (λ q. arc_seen counts (at_place g log q)) (d + 1) f p ≡ Ok (record { arcs = arcs_to (d + 1) rest; behind = past_all p (arcs_to (d + 1) rest) })
   group_reads d zero p rest h S l = absurd (omega arith)
   group_reads d (suc f) p [] h S l = ap (λ x. picked (d + 1) p x (reads (d + 1) f)) (standing_ends p S)
@@ -127,7 +127,7 @@ module _ (counts : List ℕ) (g : Heading) (log : List ℕ) (n k : ℕ) where
     rest : List LogArc
     short : length rest ≤ length arcs
     standing : Standing (past_all p (arcs_upto d arcs)) rest
-    later : All (λ a. d < a.target) rest
+    later : AllByRecursion (λ a. d < a.target) rest
     to : arcs_to (d + 1) rest ≡ arcs_to (d + 1) arcs
 
   reached : (d : ℕ) (p : SavedPlace) (arcs : List LogArc) → Standing p arcs → Reached d p arcs

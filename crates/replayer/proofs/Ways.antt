@@ -1,7 +1,7 @@
 -- What holds of every refusal and of a step that is carried out holds of any step.
 use Rattle.std.proofs.Common.{◌≡◌, ℕ, ◌+◌, ◌<◌, Bool, true, false, cond, ◌&&◌, ltb, leb, List, [], ◌∷◌, length, get_or, Some, None, Ok, Err, Option, Result, refl, ap, arith}
 use Rattle.std.proofs.lemmas.Bool.{leb-false}
-use Rattle.cores.specs.declared.core.Request.{Request}
+use Rattle.cores.specs.declared.interface.Request.{Request}
 use Rattle.cores.specs.Acting.{within}
 use Rattle.cores.specs.Memory.{able}
 use Rattle.records.specs.declared.reading.SavedPlace.{SavedPlace}

@@ -1,6 +1,6 @@
 -- What steps and runs answer, by number and values.
 use Rattle.std.specs.Prelude.{ℕ, List, [], ◌∷◌, ◌++◌, Ok, Err, Result}
-use Rattle.cores.specs.declared.core.Request.{Request}
+use Rattle.cores.specs.declared.interface.Request.{Request}
 use Rattle.cores.specs.Acting.{request_numbers}
 use Rattle.records.specs.declared.faults.Refusal.{Refusal}
 use Rattle.records.specs.declared.faults.Refusal.TheVariants.{BadSetting as Unfit, LogFault as Faulty}

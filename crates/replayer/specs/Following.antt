@@ -1,6 +1,6 @@
 -- A replay follows the logs that were opened: each core's place stands behind the arcs of the instructions that it has done.
 use Rattle.std.specs.Prelude.{◌≡◌, ℕ, ◌+◌, ◌<◌, ◌≤◌, true, List, [], ◌∷◌, length, Ok, filter, nat_eq, nat_le, slice_index, slice_index_or, slice_set}
-use Rattle.cores.specs.declared.core.Request.{Request}
+use Rattle.cores.specs.declared.interface.Request.{Request}
 use Rattle.records.specs.declared.reading.SavedPlace.{SavedPlace}
 use Rattle.records.specs.declared.settings.Sizes.{Sizes}
 use Rattle.records.specs.Format.{LogArc, arc, bytes_of}

@@ -1,6 +1,6 @@
 -- Steps and runs on the plain memory: each step is a turn of it that is accepted, or leaves it as it was.
 use Rattle.std.specs.Prelude.{◌≡◌, ℕ, true, List, [], ◌∷◌, length, take, slice_index}
-use Rattle.cores.specs.declared.core.Request.{Request}
+use Rattle.cores.specs.declared.interface.Request.{Request}
 use Rattle.cores.specs.Memory.{Rules, Memory, outcome, turned, accepts, plain, Accepted}
 use Rattle.replayer.specs.declared.replay.Replayer.{Replayer}
 use Rattle.replayer.specs.Answers.{done_numbers}

@@ -1,6 +1,6 @@
 -- What a run comes to: circles of steps.
 use Rattle.std.specs.Prelude.{ℕ, zero, suc, ◌+◌, ◌-◌, cond, List, [], ◌∷◌, length, ◌==◌, slice_index, slice_index_or}
-use Rattle.cores.specs.declared.core.Request.{Request}
+use Rattle.cores.specs.declared.interface.Request.{Request}
 use Rattle.records.specs.Faults.{bad_setting}
 use Rattle.replayer.specs.declared.replay.Replayer.{Replayer}
 use Rattle.records.specs.Settings.{settled}

@@ -1,6 +1,6 @@
 -- What an opening and a step come to.
 use Rattle.std.specs.Prelude.{◌≡◌, ℕ, ◌+◌, ◌<◌, ◌≤◌, true, false, cond, List, [], ◌∷◌, length, get_or, Some, None, Ok, Err, Option, Result, nat_le, slice_index, slice_index_or, slice_set}
-use Rattle.cores.specs.declared.core.Request.{Request}
+use Rattle.cores.specs.declared.interface.Request.{Request}
 use Rattle.cores.specs.Acting.{within, told, OthersKept}
 use Rattle.cores.specs.Memory.{able, brought, stored}
 use Rattle.records.specs.declared.reading.SavedPlace.{SavedPlace}

@@ -2,7 +2,7 @@ ghost use Rattle.std.specs.Prelude.{◌≡◌};
 ghost use Rattle.replayer.specs.Answers.{step_refusal_from};
 
 use crate::group::Source;
-use cores::core::Request;
+use cores::interface::Request;
 use records::faults::{Refusal, SessionFault};
 
 // An instruction that was carried out: what it asked, as its core's how manyth, and the number that it brought.

@@ -9,7 +9,7 @@ ghost use Rattle.replayer.specs.Runs.{left, session, circled, ran};
 use crate::answers::{Done, Ended, StepRefusal};
 use crate::group::read_group;
 use cores::acting::{act, cell_exists, request_of, tell_core};
-use cores::core::{Core, Request};
+use cores::interface::{Core, Request};
 use logs::session::read_logs;
 use records::faults::Refusal;
 use records::reading::SavedPlace;

@@ -1,7 +1,7 @@
 -- After any steps and calls since an opening, the replay agrees with the plain memory.
 use Rattle.std.proofs.Common.{◌≡◌, ℕ, ◌-◌, Bool, true, false, cond, ◌≢◌, List, [], ◌∷◌, length, Ok, Err, Result, sym, refl, ap, ◌∙◌, subst, arith}
 use Rattle.cores.specs.Memory.{Rules, Memory, plain}
-use Rattle.cores.specs.declared.core.Request.{Request}
+use Rattle.cores.specs.declared.interface.Request.{Request}
 use Rattle.logs.specs.Session as reading
 use Rattle.records.specs.Faults.{Fault, bad_setting}
 use Rattle.records.specs.Settings.{settled}

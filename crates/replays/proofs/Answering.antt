@@ -4,7 +4,7 @@ use mathlib.Core.Option.{Option, none, some}
 use Rattle.std.proofs.lemmas.List.{get_or-take}
 use Rattle.std.proofs.lemmas.Bool.{cases_lt, cond-true, cond-false, le-leb, lt-leb}
 use Rattle.cores.specs.Memory.{Rules, Memory, outcome}
-use Rattle.cores.specs.declared.core.Request.{Request}
+use Rattle.cores.specs.declared.interface.Request.{Request}
 use Rattle.records.specs.Settings.{heading_of}
 use Rattle.records.specs.declared.reading.SavedPlace.{SavedPlace}
 use Rattle.recordings.specs.Tracks.{logs_of}

@@ -3,7 +3,7 @@ use Rattle.std.proofs.Common.{◌≡◌, ℕ, ◌+◌, ◌<◌, ◌≤◌, leb, 
 use Rattle.std.proofs.lemmas.List.{length-take-le}
 use Rattle.std.proofs.lemmas.Bool.{and_parts, leb-true}
 use Rattle.cores.specs.Memory.{Rules, Memory, plain, start}
-use Rattle.cores.specs.declared.core.Request.{Request}
+use Rattle.cores.specs.declared.interface.Request.{Request}
 use Rattle.lawful_logs.proofs.Orderly.{traces_are_orderly, new_is_orderly}
 use Rattle.records.specs.Settings.{fits, no_sizes}
 use Rattle.records.specs.declared.settings.Sizes.{Sizes}
@@ -25,7 +25,7 @@ use Rattle.replays.proofs.Opening.{recordings_open}
 use Rattle.cores.specs.Memory.{outcomes}
 use Rattle.lawful_logs.specs.Orderly.{Orderly}
 use Rattle.logs.proofs.Judging.{written_append}
-use Rattle.std.specs.List.{AllByRecursion as All}
+use Rattle.std.specs.List.{AllByRecursion}
 use Rattle.logs.specs.Lawful.{Lawful, front, whole}
 use Rattle.records.specs.Format.{LogArc, end, written}
 use Rattle.records.specs.Settings.{log_of, heading_of}
@@ -97,7 +97,7 @@ module _ (meets : Meets) (bounded : Bounded meets) (next : List ℕ → List ℕ
       let arcs = logs_of k rec.arcs in (
         record {
           lawful = subst (Lawful (heading_of z k)) (rec.logs k) lawful.lawful;
-          reached = subst (λ n. All (λ a. a.target ≤ n) arcs) counted (subst (All (λ a. a.target ≤ (log_in v.tape.book k).instructions)) (rec.logs k) lawful.reached);
+          reached = subst (λ n. AllByRecursion (λ a. a.target ≤ n) arcs) counted (subst (AllByRecursion (λ a. a.target ≤ (log_in v.tape.book k).instructions)) (rec.logs k) lawful.reached);
           rest = drop (length (written (whole (heading_of z k) arcs (get_or (plain K m s.turns).counts k 0)))) (log_of r.old z k);
           bytes = bytes;
         },

@@ -3,7 +3,7 @@ use Rattle.std.proofs.Common.{◌≡◌, ℕ, suc, ◌<◌, Bool, true, false, c
 use mathlib.Core.Option.{none, some}
 use Rattle.std.proofs.lemmas.Bool.{cond-true, leb-false}
 use Rattle.cores.specs.Memory.{Rules, Memory, Outcome, outcome, effect, turned, plain, start, Accepted, outcomes, instruction}
-use Rattle.cores.specs.declared.core.Request.{Request}
+use Rattle.cores.specs.declared.interface.Request.{Request}
 use Rattle.replayer.proofs.Runs.{stepped_moves}
 use Rattle.replayer.specs.Answers.{done_numbers}
 use Rattle.replayer.specs.Memories.{rules_of}

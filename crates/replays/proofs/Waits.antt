@@ -5,7 +5,7 @@ use mathlib.Core.Option.{none, some}
 use native.Mathlib.Decide.{ℕ_discrete}
 use Rattle.std.proofs.lemmas.List.{get_or-take}
 use Rattle.std.proofs.lemmas.Bool.{cases_eq, eq-eqb, false≢true}
-use Rattle.std.specs.List.{AllByRecursion as All}
+use Rattle.std.specs.List.{AllByRecursion}
 use Rattle.logs.specs.Lawful.{Lawful}
 use Rattle.records.specs.Format.{LogArc}
 use Rattle.records.specs.declared.settings.Heading.{Heading}
@@ -22,16 +22,16 @@ abbrev pub waits_none : Option Source → Bool
 waits_none None = true
 waits_none (Some s) = false
 
-all_snoc : (P : Arc → Type 0) (l : List Arc) (a : Arc) → All P l → P a → All P (l ++ (a ∷ []))
+all_snoc : (P : Arc → Type 0) (l : List Arc) (a : Arc) → AllByRecursion P l → P a → AllByRecursion P (l ++ (a ∷ []))
 all_snoc P [] a h p = (p, tt)
 all_snoc P (x ∷ l) a h p = (h.0, all_snoc P l a h.1 p)
 
 -- the arcs of core j's log are to instructions of j
-own : (j : ℕ) (L : List Arc) → All (λ a. a.target.core ≡ j) (log j L)
+own : (j : ℕ) (L : List Arc) → AllByRecursion (λ a. a.target.core ≡ j) (log j L)
 own j [] = tt
 own j (a ∷ L) = elim (cases_eq a.target.core j) [
-  | inl q ↦ subst (All (λ a. a.target.core ≡ j)) (sym (choose_yes (ℕ_discrete a.target.core j) (log j L ++ (a ∷ [])) (log j L) q)) (all_snoc (λ a. a.target.core ≡ j) (log j L) a (own j L) q)
-  | inr n ↦ subst (All (λ a. a.target.core ≡ j)) (sym (choose_no (ℕ_discrete a.target.core j) (log j L ++ (a ∷ [])) (log j L) n)) (own j L)
+  | inl q ↦ subst (AllByRecursion (λ a. a.target.core ≡ j)) (sym (choose_yes (ℕ_discrete a.target.core j) (log j L ++ (a ∷ [])) (log j L) q)) (all_snoc (λ a. a.target.core ≡ j) (log j L) a (own j L) q)
+  | inr n ↦ subst (AllByRecursion (λ a. a.target.core ≡ j)) (sym (choose_no (ℕ_discrete a.target.core j) (log j L ++ (a ∷ [])) (log j L) n)) (own j L)
 ]
 
 module _ (g : Heading) (d : List ℕ) (j : ℕ) (mine : j < g.cores) where
@@ -49,7 +49,7 @@ module _ (g : Heading) (d : List ℕ) (j : ℕ) (mine : j < g.cores) where
       go false = refl
 
   -- over a core's own arcs, whose sources are cores of the session
-  waits_over : (l : List Arc) → All (λ a. a.target.core ≡ j) l → Lawful g (map to_log l) →
+  waits_over : (l : List Arc) → AllByRecursion (λ a. a.target.core ≡ j) l → Lawful g (map to_log l) →
       waits_none (waits_for d (arcs_to (get_or d j 0 + 1) (map to_log l))) ≡ free l few j
   waits_over [] o h = refl
   waits_over (a ∷ l) o h =
@@ -80,7 +80,7 @@ module _ (g : Heading) (d : List ℕ) (j : ℕ) (mine : j < g.cores) where
       go true = e
       go false = refl
 
-  first_over : (l : List Arc) → All (λ a. a.target.core ≡ j) l → Lawful g (map to_log l) →
+  first_over : (l : List Arc) → AllByRecursion (λ a. a.target.core ≡ j) l → Lawful g (map to_log l) →
       waits_for d (arcs_to (get_or d j 0 + 1) (map to_log l)) ≡ source_waited (waiting l (take g.cores d) j)
   first_over [] o h = refl
   first_over (a ∷ l) o h =

@@ -3,7 +3,7 @@ use Rattle.std.proofs.Common.{◌≡◌, ℕ, zero, suc, ◌+◌, ◌-◌, ◌<�
 use Rattle.std.proofs.lemmas.List.{get_or-take}
 use Rattle.std.proofs.lemmas.Bool.{cond-true, cond-false, eq-eqb, ne_eqb, le-ltb}
 use Rattle.cores.specs.Memory.{Rules, Memory, outcome, turned, accepts, plain}
-use Rattle.cores.specs.declared.core.Request.{Request}
+use Rattle.cores.specs.declared.interface.Request.{Request}
 use Rattle.records.specs.Settings.{settled}
 use Rattle.replayer.proofs.Runs.{around_moves}
 use Rattle.replayer.specs.Memories.{memory_of, rules_of, walked}

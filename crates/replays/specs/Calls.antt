@@ -1,6 +1,6 @@
 -- Calls of a replayer since an accepted opening, each by what it promises: steps, runs, and openings that are refused.
 use Rattle.std.specs.Prelude.{◌≡◌, ℕ, ◌≢◌, List, [], ◌∷◌}
-use Rattle.cores.specs.declared.core.Request.{Request}
+use Rattle.cores.specs.declared.interface.Request.{Request}
 use Rattle.records.specs.declared.settings.Sizes.{Sizes}
 use Rattle.replayer.specs.Runs.{ran}
 use Rattle.replayer.specs.Steps.{Outcome, Opened, reopened, stepped}

@@ -2,7 +2,7 @@
 use Rattle.std.specs.Prelude.{◌≡◌, ℕ, ◌<◌, true, cond, List, [], ◌∷◌, length, nat_le, slice_index}
 use Rattle.std.proofs.Math.Option.{Option, none, some}
 use Rattle.cores.specs.Memory.{Rules, Memory, outcome}
-use Rattle.cores.specs.declared.core.Request.{Request}
+use Rattle.cores.specs.declared.interface.Request.{Request}
 use Rattle.records.specs.Settings.{settled}
 use Rattle.recordings.specs.Tracks.{logs_of}
 use Rattle.replayer.specs.Answers.{done_numbers}

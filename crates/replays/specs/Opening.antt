@@ -1,6 +1,6 @@
 -- What a recorder recorded, opened anew: accepted, and as far as a replay of no steps over the recording's arcs.
 use Rattle.std.specs.Prelude.{◌≡◌, ℕ, ◌*◌, ◌<◌, true, List, [], ◌∷◌, length, take}
-use Rattle.std.specs.List.{AllByRecursion as All}
+use Rattle.std.specs.List.{AllByRecursion}
 use Rattle.cores.specs.Memory.{Rules, plain, start}
 use Rattle.lawful_logs.specs.Orderly.{Orderly}
 use Rattle.records.specs.Settings.{settled}
@@ -19,7 +19,7 @@ pub record Again (z : Sizes) (s : Session) (recorded store cells : List ℕ) (st
   pub same_cells : take z.cells cells ≡ s.cells
   pub same_states : take z.cores states ≡ s.states
   pub same_bytes : take (z.cores * z.log_bytes) store ≡ take (z.cores * z.log_bytes) recorded
-  pub octets : All (λ b. b < 256) store
+  pub octets : AllByRecursion (λ b. b < 256) store
   pub ready : settled z (length states) (length cells) (length store) ≡ true
 
 abbrev pub RecordingsOpen : Meets → Type 0

@@ -1,7 +1,7 @@
 -- No dropped ordering was needed: whatever was recorded, each replay of its bytes carries out what the plain memory did, and a run of it finishes with the plain memory.
 use Rattle.std.specs.Prelude.{◌≡◌, ℕ, ◌-◌, ◌<◌, true, List, [], ◌∷◌, ◌++◌, length, take, drop, slice_index}
 use Rattle.cores.specs.Memory.{Memory, outcomes, plain, start, Accepted}
-use Rattle.cores.specs.declared.core.Request.{Request}
+use Rattle.cores.specs.declared.interface.Request.{Request}
 use Rattle.logs.specs.Lawful.{whole, LogHolds}
 use Rattle.records.specs.Format.{written}
 use Rattle.records.specs.Settings.{no_sizes, settled, log_of, heading_of}

@@ -1,7 +1,7 @@
 -- What the steps of a replay say, by the plain memory's instructions, the arcs, and how many instructions of each core are done.
 use Rattle.std.specs.Prelude.{◌≡◌, ℕ, suc, ◌+◌, ◌<◌, cond, List, [], ◌∷◌, Some, None, Option, nat_le, slice_index, slice_set}
 use Rattle.cores.specs.Memory.{Outcome, instruction}
-use Rattle.cores.specs.declared.core.Request.{Request}
+use Rattle.cores.specs.declared.interface.Request.{Request}
 use Rattle.replayer.specs.Answers.{done_numbers}
 use Rattle.replayer.specs.Runs.{Session, counted, one}
 use Rattle.replayer.specs.Steps.{stepped}

@@ -1,7 +1,7 @@
 -- Any steps, and a run, over the bytes of logs come as far as the replay over the arcs of the recording.
 use Rattle.std.specs.Prelude.{◌≡◌, ℕ, ◌+◌, ◌-◌, List, [], ◌∷◌, length}
 use Rattle.cores.specs.Memory.{Memory, plain}
-use Rattle.cores.specs.declared.core.Request.{Request}
+use Rattle.cores.specs.declared.interface.Request.{Request}
 use Rattle.replayer.specs.Memories.{memory_of, rules_of, walked}
 use Rattle.replayer.specs.Runs.{Session, ran}
 use Rattle.replayer.specs.Steps.{Outcome}

@@ -4,7 +4,7 @@
 ghost use Rattle.std.specs.Prelude.{ℕ, List};
 ghost use Rattle.replays.specs.Promise.{NoDroppedOrderingWasNeeded};
 
-use cores::core::Core;
+use cores::interface::Core;
 use reducers::interface::Reducer;
 
 // Holds the theorem that no dropped ordering was needed, for any kind of core and any reducer: whatever calls a recorder

@@ -1,8 +1,8 @@
 -- Arcs that order the conflicts of the run of some turns guide a replay of them.
 use Rattle.std.proofs.Common.{◌≡◌, ℕ, suc, ◌<◌, ◌≤◌, ◌⊎◌, List, [], ◌∷◌, length, get_or, sym, refl, ap, ◌∙◌, subst, inl, inr, arith}
 use native.Mathlib.Decide.{ℕ_discrete}
-use Rattle.cores.specs.declared.core.Request.{Request}
-use Rattle.cores.specs.declared.core.Request.TheVariants.{Halt, Local, Read, Write, Exchange}
+use Rattle.cores.specs.declared.interface.Request.{Request}
+use Rattle.cores.specs.declared.interface.Request.TheVariants.{Halt, Local, Read, Write, Exchange}
 use Rattle.cores.specs.Memory.{Rules, Memory, outcome, plain, Accepted}
 use Rattle.runs.specs.Runs.{Access, read, write, Event, ev, Run, Instr, done, next, turns, Placed, Clash, Earlier, Conflict, program, link, chain}
 use Rattle.runs.specs.Recording.{Arc, arc, Reach}

@@ -1,7 +1,7 @@
 -- Coarser places keep the order of the cells.
 use Rattle.std.proofs.Common.{◌≡◌, ℕ, suc, ◌≤◌, List, [], ◌∷◌, sym, refl, ap, ◌∙◌, subst, inl, inr}
-use Rattle.cores.specs.declared.core.Request.{Request}
-use Rattle.cores.specs.declared.core.Request.TheVariants.{Halt, Local, Read, Write, Exchange}
+use Rattle.cores.specs.declared.interface.Request.{Request}
+use Rattle.cores.specs.declared.interface.Request.TheVariants.{Halt, Local, Read, Write, Exchange}
 use Rattle.cores.specs.Memory.{Rules, Memory, outcome, plain}
 use Rattle.runs.specs.Runs.{Access, local, read, write, Event, ev, Run, Instr, done, turns, Has, Placed, Clash, Conflicting, program, link, chain, Before, if_same}
 use Rattle.runs.specs.PlainRun.{access, run}

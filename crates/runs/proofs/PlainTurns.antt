@@ -1,7 +1,7 @@
 -- The turns of the plain memory: an instruction is a turn with the turns before it.
 use Rattle.std.proofs.Common.{◌≡◌, ℕ, suc, ◌≤◌, ◌≢◌, ◌⊎◌, List, ◌∷◌, get_or}
-use Rattle.cores.specs.declared.core.Request.{Request}
-use Rattle.cores.specs.declared.core.Request.TheVariants.{Halt, Local, Read, Write, Exchange}
+use Rattle.cores.specs.declared.interface.Request.{Request}
+use Rattle.cores.specs.declared.interface.Request.TheVariants.{Halt, Local, Read, Write, Exchange}
 use Rattle.cores.specs.Memory.{Rules, Memory, Outcome, outcome, plain, Accepted}
 use Rattle.runs.specs.Recording.{Arc, In}
 

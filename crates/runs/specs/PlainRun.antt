@@ -1,7 +1,7 @@
 -- The run of the plain memory's turns.
 use Rattle.std.specs.Prelude.{ℕ, List, [], ◌∷◌}
-use Rattle.cores.specs.declared.core.Request.{Request}
-use Rattle.cores.specs.declared.core.Request.TheVariants.{Halt, Local, Read, Write, Exchange}
+use Rattle.cores.specs.declared.interface.Request.{Request}
+use Rattle.cores.specs.declared.interface.Request.TheVariants.{Halt, Local, Read, Write, Exchange}
 use Rattle.cores.specs.Memory.{Rules, Memory, outcome, plain}
 use Rattle.runs.specs.Runs.{Access, local, read, write, ev, Run}
 

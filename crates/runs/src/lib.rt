@@ -8,7 +8,7 @@ ghost use Rattle.runs.specs.Theorems.{NoOrderingLost, LogsAreLawful, LogsFew, Ex
 ghost use Rattle.runs.specs.Logged.{KeepAllLogsEveryCandidate, PairwiseLogsWhatIsNewer, TargetsAreLatestFirst};
 ghost use Rattle.runs.specs.Worked.{LoggedArcs, ReplayedFirstRun, TodayLosesAnOrdering};
 
-use cores::core::Core;
+use cores::interface::Core;
 use reducers::interface::Reducer;
 
 // With any reducer within its bounds, program order and the logged arcs give exactly the order of the run.

@@ -1,7 +1,7 @@
 -- Steps one by one, with the answers as they are put down.
 use Rattle.std.proofs.Common.{◌≡◌, ℕ, ◌+◌, ◌<◌, ◌≤◌, List, [], ◌∷◌, ◌++◌, map, length, get_or, drop, Result, sym, ap, ◌∙◌, add-one, drop-cons}
 use Rattle.std.proofs.lemmas.List.{drop_all, map-append, append_assoc, append-nil}
-use Rattle.cores.specs.declared.core.Request.{Request}
+use Rattle.cores.specs.declared.interface.Request.{Request}
 use Rattle.replayer.specs.Answers.{step_numbers}
 use Rattle.replayer.specs.Memories.{walked}
 use Rattle.replayer.specs.Runs.{Session, session, counted, one, then}

@@ -2,9 +2,9 @@
 use Rattle.std.proofs.Common.{◌≡◌, ℕ, ◌+◌, ◌-◌, ◌<◌, ◌≤◌, Bool, true, false, cond, ◌&&◌, leb, List, [], ◌∷◌, ◌++◌, reverse, length, take, drop, sym, refl, ap, ◌∙◌, subst, arith}
 use Rattle.std.proofs.lemmas.List.{take_all, length-take-le, take-append-drop}
 use Rattle.std.proofs.lemmas.Bool.{and_parts, and_from, leb-true, le-leb}
-use Rattle.std.specs.List.{AllByRecursion as All}
+use Rattle.std.specs.List.{AllByRecursion}
 use Rattle.cores.specs.Memory.{Rules, Memory, plain, start}
-use Rattle.cores.specs.declared.core.Request.{Request}
+use Rattle.cores.specs.declared.interface.Request.{Request}
 use Rattle.lawful_logs.proofs.Orderly.{traces_are_orderly, new_is_orderly}
 use Rattle.lawful_logs.specs.Orderly.{Orderly}
 use Rattle.logs.specs.Session.{no_counts}
@@ -72,7 +72,7 @@ module _ (meets : Meets) (bounded : Bounded meets) (next : List ℕ → List ℕ
     (ok : settled z (length w.states) (length w.cells) (length w.tape.store) ≡ true)
     (room : length (headed_from z z.cores 0 w.tape.store) ≡ length w.tape.store)
     (row : InARow meets (rules_of next after text) (world (fresh_tape z (headed_from z z.cores 0 w.tape.store)) w.cells w.states) (reverse turns) (reverse says) v)
-    (octets : All (λ b. b < 256) v.tape.store)
+    (octets : AllByRecursion (λ b. b < 256) v.tape.store)
     (beyond_cells : drop z.cells v.cells ≡ drop z.cells w.cells) (beyond_states : drop z.cores v.states ≡ drop z.cores w.states) where
   abbrev K : Rules
   K = rules_of next after text

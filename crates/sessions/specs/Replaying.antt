@@ -1,6 +1,6 @@
 -- A replay of a store: opened, stepped, then run to its end.
 use Rattle.std.specs.Prelude.{ℕ, List, length}
-use Rattle.cores.specs.declared.core.Request.{Request}
+use Rattle.cores.specs.declared.interface.Request.{Request}
 use Rattle.logs.specs.Session.{no_counts}
 use Rattle.records.specs.Settings.{no_sizes}
 use Rattle.records.specs.declared.settings.Sizes.{Sizes}

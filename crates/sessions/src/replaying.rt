@@ -1,5 +1,5 @@
 ghost use Rattle.std.specs.Prelude.{◌≡◌, ◌<◌, ◌≤◌, [], map, length, vec_capacity};
-ghost use Rattle.std.specs.List.{AllByRecursion as All};
+ghost use Rattle.std.specs.List.{AllByRecursion};
 ghost use Rattle.logs.specs.Session.{done_as};
 ghost use Rattle.replayer.specs.Answers.{step_numbers, run_numbers};
 ghost use Rattle.replayer.specs.Memories.{walked};
@@ -8,7 +8,7 @@ ghost use Rattle.replays.specs.Calls.{stage};
 ghost use Rattle.replays.specs.Replies.{steps_said};
 ghost use Rattle.sessions.specs.Replaying.{stage_of, first_opening, said_by_steps, run_behind};
 
-use cores::core::Core;
+use cores::interface::Core;
 use records::faults::Refusal;
 use records::settings::Sizes;
 use replayer::answers::{Done, Ended, StepRefusal};
@@ -57,7 +57,7 @@ pub(crate) fn replay<K: Core>(
     ensures ended { run_numbers result.ended ≡ (run_behind K.Core.next K.Core.after text.now store.now sizes cells.old (map K.Core.state cores.old) steps.now).says }
     ensures cells { cells.new ≡ (run_behind K.Core.next K.Core.after text.now store.now sizes cells.old (map K.Core.state cores.old) steps.now).cells }
     ensures states { map K.Core.state cores.new ≡ (run_behind K.Core.next K.Core.after text.now store.now sizes cells.old (map K.Core.state cores.old) steps.now).states }
-    ensures octets { All (λ b. b < 256) store.now }
+    ensures octets { AllByRecursion (λ b. b < 256) store.now }
     ensures lengths { (length cells.new ≡ length cells.old) × (length cores.new ≡ length cores.old) }
 {
     let mut replayer = Replayer::new();
@@ -83,7 +83,7 @@ pub(crate) fn replay_copies<K: Core>(
     ensures ended { run_numbers result.ended ≡ (run_behind K.Core.next K.Core.after text.now store.now sizes cells.old.items (map K.Core.state cores.old.items) steps.now).says }
     ensures cells { cells.new.items ≡ (run_behind K.Core.next K.Core.after text.now store.now sizes cells.old.items (map K.Core.state cores.old.items) steps.now).cells }
     ensures states { map K.Core.state cores.new.items ≡ (run_behind K.Core.next K.Core.after text.now store.now sizes cells.old.items (map K.Core.state cores.old.items) steps.now).states }
-    ensures octets { All (λ b. b < 256) store.now }
+    ensures octets { AllByRecursion (λ b. b < 256) store.now }
     ensures lengths { (length cells.new.items ≡ length cells.old.items) × (length cores.new.items ≡ length cores.old.items) }
 {
     replay(

@@ -6,7 +6,7 @@ ghost use Rattle.sessions.specs.Whole.{buffers, ComesTo, CoresKept};
 
 use crate::replaying::replay_copies;
 use crate::turning::take_turns;
-use cores::core::Core;
+use cores::interface::Core;
 use recorder::recording::{Recorded, Recorder};
 use recorder::rules::Refusal;
 use records::faults::Refusal as LogRefusal;

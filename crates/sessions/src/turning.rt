@@ -3,7 +3,7 @@ ghost use Rattle.records.specs.Settings.{SurplusKept};
 ghost use Rattle.recorder.specs.Turns.{rules, scene, said};
 ghost use Rattle.recordings.specs.ByTheRules.{InARow};
 
-use cores::core::Core;
+use cores::interface::Core;
 use recorder::recording::{Recorded, Recorder};
 use recorder::rules::Refusal;
 use reducers::interface::Reducer;

@@ -16,15 +16,15 @@ unreachable-requires g c =
     not_refused s g.R.Reducer.meets (rules g.K.Core.next g.K.Core.after a.text.now) a.sizes a.turns.now []
     (buffers a.cells.now (map s a.cores.now) a.store.now) (buffers t.cells (map s t.cores) t.store) c.in-Err.error c.in-Refused.field-0
     c.in-Err.ensures.outcome c.in-Refused.is
-    (ap (λ k. settled a.sizes k (length a.cells.now) (length a.store.now)) (length-map a.cores.now s) ∙ c.requires.store_value)
+    (ap (λ k. settled a.sizes k (length a.cells.now) (length a.store.now)) (length-map a.cores.now s) ∙ c.requires.fitting)
 
 pub returns : goal.returns
 returns g c =
     let a = c.args in
     let t = c.record_and_replay.new in
     let long : length t.store ≡ length a.store.now = omega arith in
-    let fit : fits (length t.store) a.sizes ≡ true = ap (λ n. fits n a.sizes) long ∙ (and_parts (fits (length a.store.now) a.sizes) _ c.requires.store_value).0 in
+    let fit : fits (length t.store) a.sizes ≡ true = ap (λ n. fits n a.sizes) long ∙ (and_parts (fits (length a.store.now) a.sizes) _ c.requires.fitting).0 in
     made_so c.list_run.result _ _
     (λ s h. tells g.R.Reducer.meets (rules g.K.Core.next g.K.Core.after a.text.now) a.sizes a.turns.now _ _ _ c.in-Ok.ensures.outcome.1
-    (length-map a.cores.now g.K.Core.state ∙ c.requires.cores_len.0) c.requires.cores_len.1 fit c.finished_steps.result c.finished_steps.ensures (string_bytes s) h)
+    (length-map a.cores.now g.K.Core.state ∙ c.requires.lengths.0) c.requires.lengths.1 fit c.finished_steps.result c.finished_steps.ensures (string_bytes s) h)
     c.list_run.ensures

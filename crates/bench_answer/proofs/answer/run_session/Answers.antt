@@ -10,6 +10,6 @@ list_session-requires g c =
     let cells = ap length (c.as_mut_slice.ensures.value ∙ c.in_ok-cells.ensures) ∙ length_replicate a.cell_count in
     let store : length c.as_mut_slice-2.result.now ≡ length a.cores.now * 4096 = c.as_mut_slice-2.ensures.len ∙ c.in_ok-store.ensures.len in
     record {
-      store_value = settles (length a.cores.now) a.cell_count _ _ c.requires.0 c.requires.1.0 c.requires.1.1.0 c.requires.1.1.1 cells store;
-      cores_len = (refl, cells);
+      fitting = settles (length a.cores.now) a.cell_count _ _ c.requires.0 c.requires.1.0 c.requires.1.1.0 c.requires.1.1.1 cells store;
+      lengths = (refl, cells);
     }

@@ -1,6 +1,6 @@
 -- The outcome is the definition's, and so an accepted log has its old bytes up to its end.
 use Rattle.std.proofs.Common.{◌<◌, sym, ap, ◌∙◌, subst, arith}
-use Rattle.std.specs.List.{AllByRecursion as All}
+use Rattle.std.specs.List.{AllByRecursion}
 use Rattle.std.proofs.ByRecursion.{All-from_get_or}
 use Rattle.logs.specs.WriteOut.{Restored}
 use Rattle.logs.proofs.WritingOut.{write_restores}
@@ -11,7 +11,7 @@ returns c =
     let store = c.args.store.now in
     let z = c.args.sizes in
     let out = c.args.out.now in
-    let octets : All (λ b. b < 256) store = All-from_get_or (λ b. b < 256) store 0 (λ i h. omega (arith, c.type_inv.store i)) in
+    let octets : AllByRecursion (λ b. b < 256) store = All-from_get_or (λ b. b < 256) store 0 (λ i h. omega (arith, c.type_inv.store i)) in
     let same = c.write_session.ensures in
     record {
       outcome = same;

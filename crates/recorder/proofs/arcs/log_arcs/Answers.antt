@@ -23,8 +23,8 @@ log_one-tail-requires g c =
     let within : i < length xs = omega arith in
     let more = at_drop_more present xs i None within in
     record {
-      sizes_value = (ap (λ k. fits k c.args.sizes) c.loop-candidate.auto.store ∙ c.requires.sizes_value.0, c.requires.sizes_value.1);
-      candidate_bound = (omega (arith, c.loop-candidate.invariant.0, more, c.requires.candidates_bound.0), omega (arith, c.loop-candidate.invariant.1, c.requires.candidates_bound.1));
+      fitting = (ap (λ k. fits k c.args.sizes) c.loop-candidate.auto.store ∙ c.requires.fitting.0, c.requires.fitting.1);
+      room = (omega (arith, c.loop-candidate.invariant.0, more, c.requires.room.0), omega (arith, c.loop-candidate.invariant.1, c.requires.room.1));
     }
 
 pub loop-candidate-preserved : goal.loop-candidate-preserved
@@ -41,8 +41,8 @@ loop-candidate-preserved g c =
     let offset = ap (λ (t : Tail). t.offset) c.log_one-tail.ensures.tail in
     let arcs = ap (λ (t : Tail). t.arcs) c.log_one-tail.ensures.tail in
     let single = one_le (get_or xs i None) in
-    let inside = log_room (length a.store.now) a.sizes a.by.core c.requires.sizes_value.0 c.requires.sizes_value.1 in
-    let room : a.by.core * a.sizes.log_bytes + a.tail.offset ≤ length a.store.now = omega (arith, inside, c.requires.candidates_bound.0) in (
+    let inside = log_room (length a.store.now) a.sizes a.by.core c.requires.fitting.0 c.requires.fitting.1 in
+    let room : a.by.core * a.sizes.log_bytes + a.tail.offset ≤ length a.store.now = omega (arith, inside, c.requires.room.0) in (
       omega (arith, l.invariant.0, more, offset, few.0, few.1),
       omega (arith, l.invariant.1, arcs, few.1, single),
       logged_more m.meets a.sizes a.cell a.by (m.numbers a.reducer.now) (m.numbers l.reducer) (m.numbers c.log_one-tail.new.reducer)

@@ -16,5 +16,5 @@ invariant_of-self c =
     let four : length self.logs ≡ 4 = search rules in
     record {
       sound = counted_sound self.sizes self.logs self.position c.args.j c.args.arcs c.args.end four
-          c.requires.j_lt_cores.1 c.requires.j_lt_cores.0 c.requires.no_log_bound c.requires.arcs_bound.0 c.requires.arcs_bound.1 self.sound;
+          c.requires.inside.1 c.requires.inside.0 c.requires.unspent c.requires.room.0 c.requires.room.1 self.sound;
     }

@@ -52,12 +52,12 @@ enter-count-requires g c =
     let s = c.args.self.now in
     let n = length c.args.store.now in
     record {
-      sizes_value = (
+      fitting = (
         settled_fits s.ledger.sizes (length c.args.cores.now) (length c.args.cells.now) n c.if-not-buffers_hold.ensures,
         below g.K.Core.state g.R.Reducer.meets g.K.Core.next g.K.Core.after c.args.text.now c.args.cores.now c.args.cells.now
             (tape g.R.Reducer.numbers s c.args.store.now) c.args.j c.if-not-buffers_hold.ensures c.in-Some.request c.in-Some.ensures,
       );
-      request_value = sym c.in_default-bars.ensures;
+      unbarred = sym c.in_default-bars.ensures;
     }
 
 pub returns : goal.returns

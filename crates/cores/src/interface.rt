@@ -1,7 +1,7 @@
 // A core: what it asks next, and how an answer changes it.
 ghost use Rattle.std.specs.Prelude.{◌≡◌, ℕ, List};
-ghost use Rattle.cores.specs.declared.core.Request.{Request};
-ghost use Rattle.cores.specs.declared.core.Request.TheVariants.{Halt};
+ghost use Rattle.cores.specs.declared.interface.Request.{Request};
+ghost use Rattle.cores.specs.declared.interface.Request.TheVariants.{Halt};
 
 // What a core asks next.
 #[derive(Clone, Copy, PartialEq, Eq, Debug)]
