@@ -3,6 +3,7 @@
 
 use bench_answer::answer::answer;
 use std::io::Read;
+use std::process::ExitCode;
 
 fn bench(rt: &HostRuntime) -> anyhow::Result<()> {
     let mut input = Vec::new(rt.alloc());
@@ -11,12 +12,12 @@ fn bench(rt: &HostRuntime) -> anyhow::Result<()> {
     Ok(())
 }
 
-fn main(rt: HostRuntime) -> anyhow::Result<()> {
+// The one line that is said of an error is this one: a returned error would be printed once more.
+fn main(rt: HostRuntime) -> ExitCode {
     match bench(&rt) {
-        Ok(()) => Ok(()),
-        Err(e) => {
-            eprintln!(rt; "bench: {e}")?;
-            Err(e)
-        }
+        Ok(()) => ExitCode::SUCCESS,
+        Err(e) => match eprintln!(rt; "bench: {e}") {
+            Ok(()) | Err(_) => ExitCode::FAILURE,
+        },
     }
 }

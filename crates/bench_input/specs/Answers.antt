@@ -14,9 +14,9 @@ Answers view o (Err Bad) = o ≡ None
 Answers view o (Err NoMemory) = Unit {0}
 
 -- where the parts stand among the numbers ns, or none where sizes are out of range or not kept to
-abbrev pub Laid_out : List ℕ → Option Layout → Type 0
-Laid_out ns None = sized ns ≡ false
-Laid_out ns (Some l) = (sized ns ≡ true) × (l.text_end ≡ 5 + text_size ns) × (l.turns_at ≡ turns_at ns)
+abbrev pub LaidOut : List ℕ → Option Layout → Type 0
+LaidOut ns None = sized ns ≡ false
+LaidOut ns (Some l) = (sized ns ≡ true) × (l.text_end ≡ 5 + text_size ns) × (l.turns_at ≡ turns_at ns)
 
 -- a session that the bytes describe, or `Bad` where they describe none
 abbrev pub AnswersInWords : List ℕ → Result Input InputError → Type 0

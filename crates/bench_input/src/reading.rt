@@ -1,5 +1,5 @@
 ghost use Rattle.std.specs.Prelude.{◌≡◌, IfOk, if◌then◌else◌, Some, None, vec_items, nat_le};
-ghost use Rattle.bench_input.specs.Answers.{Answers, Laid_out, AnswersInWords};
+ghost use Rattle.bench_input.specs.Answers.{Answers, LaidOut, AnswersInWords};
 ghost use Rattle.bench_input.specs.Described.{all_bytes, kind_of, reduction_of, session, described};
 ghost use Rattle.bench_input.specs.Session.{session_of};
 
@@ -68,7 +68,7 @@ struct Layout {
 impl Layout {
     // None where a number of things is out of range, or there are too few numbers or too many.
     fn of(numbers: &[u16]) -> Option<Layout>
-        ensures { Laid_out numbers.now result }
+        ensures { LaidOut numbers.now result }
     {
         let [_, _, cores, cells, items, ..] = numbers else {
             return None;

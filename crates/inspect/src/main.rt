@@ -9,6 +9,7 @@ use listing::listing::list_logs;
 use listing::words::number_of;
 use records::settings::Sizes;
 use std::alloc::Global;
+use std::process::ExitCode;
 use std::{env, fs};
 
 // The number of an argument, which goes by `name`.
@@ -48,12 +49,12 @@ fn inspect(rt: &HostRuntime) -> anyhow::Result<()> {
     Ok(())
 }
 
-fn main(rt: HostRuntime) -> anyhow::Result<()> {
+// The one line that is said of an error is this one: a returned error would be printed once more.
+fn main(rt: HostRuntime) -> ExitCode {
     match inspect(&rt) {
-        Ok(()) => Ok(()),
-        Err(e) => {
-            eprintln!(rt; "inspect: {e}; usage: inspect FILE P C L")?;
-            Err(e)
-        }
+        Ok(()) => ExitCode::SUCCESS,
+        Err(e) => match eprintln!(rt; "inspect: {e}; usage: inspect FILE P C L") {
+            Ok(()) | Err(_) => ExitCode::FAILURE,
+        },
     }
 }

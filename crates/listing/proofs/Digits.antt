@@ -1,7 +1,7 @@
 -- A word read digit by digit.
 use Rattle.std.proofs.Common.{◌≡◌, ℕ, ◌+◌, ◌-◌, ◌*◌, ◌<◌, ◌≤◌, Bool, true, false, cond, ◌&&◌, ltb, leb, List, [], ◌∷◌, ◌++◌, length, get_or, take, drop, Some, None, sym, refl, ap, ◌∙◌, subst, arith}
 use Rattle.std.specs.Str.Parse.{digits_value, digits_value_after}
-use Rattle.std.specs.Char.{is_ascii_digit, digit_value as digitValue}
+use Rattle.std.specs.Char.{is_ascii_digit, digit_value}
 use Rattle.std.specs.Int.{IsInRange}
 use Rattle.std.specs.Str.{all_ascii_digits}
 use Rattle.std.proofs.lemmas.List.{take_more, take_all, take-append-drop}
@@ -17,11 +17,11 @@ pub record Begun (w : List ℕ) (n : ℕ) : Type 0 where
 
 value_after_append : (n : ℕ) (xs ys : List ℕ) → digits_value_after 10 n (xs ++ ys) ≡ digits_value_after 10 (digits_value_after 10 n xs) ys
 value_after_append n [] ys = refl
-value_after_append n (x ∷ xs) ys = value_after_append (n * 10 + digitValue x) xs ys
+value_after_append n (x ∷ xs) ys = value_after_append (n * 10 + digit_value x) xs ys
 
 value_after_ge : (n : ℕ) (xs : List ℕ) → n ≤ digits_value_after 10 n xs
 value_after_ge n [] = omega arith
-value_after_ge n (x ∷ xs) = omega (arith, value_after_ge (n * 10 + digitValue x) xs)
+value_after_ge n (x ∷ xs) = omega (arith, value_after_ge (n * 10 + digit_value x) xs)
 
 digits_append : (xs ys : List ℕ) → all_ascii_digits (xs ++ ys) ≡ true → (all_ascii_digits xs ≡ true) × (all_ascii_digits ys ≡ true)
 digits_append [] ys h = (refl, h)
@@ -34,15 +34,15 @@ digits_push : (xs : List ℕ) (c : ℕ) → all_ascii_digits xs ≡ true → is_
 digits_push [] c h d = and_from _ _ d refl
 digits_push (x ∷ xs) c h d = let p = and_parts _ _ h in and_from _ _ p.0 (digits_push xs c p.1 d)
 
-digit_value : (c : ℕ) → is_ascii_digit c ≡ true → digitValue c ≡ c - 48
-digit_value c d =
+digit_value_is : (c : ℕ) → is_ascii_digit c ≡ true → digit_value c ≡ c - 48
+digit_value_is c d =
     let p = and_parts _ _ d in
     let inside : IsInRange 48 57 c = (leb-true _ _ p.0, leb-true _ _ p.1) in
     omega (arith, digit_value_digit c inside)
 
 -- one digit more
 value_more : (w : List ℕ) (n c : ℕ) → digits_value 10 w ≡ n → is_ascii_digit c ≡ true → digits_value 10 (w ++ (c ∷ [])) ≡ n * 10 + (c - 48)
-value_more w n c e d = value_after_append 0 w (c ∷ []) ∙ (λ i. e i * 10 + digit_value c d i)
+value_more w n c e d = value_after_append 0 w (c ∷ []) ∙ (λ i. e i * 10 + digit_value_is c d i)
 
 argument_none : (w : List ℕ) → (all_ascii_digits w ≡ true → digits_value 10 w ≤ 65535 → ⊥) → argument w ≡ None
 argument_none w no_number = go (ltb 0 (length w)) (all_ascii_digits w) (leb (digits_value 10 w) 65535) refl refl

@@ -101,13 +101,13 @@ module _ (meets : Meets) (K : Rules) (z : Sizes) (cs : List ℕ) (ss : List (Lis
     abbrev extended_by : traced.Recording
     extended_by = traced.extended K r j (new_arcs v.tape j (asks K j v) T.trail)
 
-    abbrev Goes_on : Answered → Type 0
-    Goes_on x = Account meets K z cs ss (j ∷ js) (x.says ∷ says) x.leaves (cond (refused x.says) r extended_by)
+    abbrev GoesOn : Answered → Type 0
+    GoesOn x = Account meets K z cs ss (j ∷ js) (x.says ∷ says) x.leaves (cond (refused x.says) r extended_by)
 
-    refused_account : refusal K j v ≢ 0 → Goes_on o
+    refused_account : refusal K j v ≢ 0 → GoesOn o
     refused_account never =
         let said : refused (refusal K j v ∷ []) ≡ true = ap not (ne_eqb (refusal K j v) 0 never) in
-        subst Goes_on (sym (refused_turn meets K j v o T never))
+        subst GoesOn (sym (refused_turn meets K j v o T never))
         (record {
           turns = a.turns;
           arcs = a.arcs;
@@ -117,7 +117,7 @@ module _ (meets : Meets) (K : Rules) (z : Sizes) (cs : List ℕ) (ss : List (Lis
           settles = a.settles;
         })
 
-    accepted_account : ready o.leaves ≡ true → refusal K j v ≡ 0 → Goes_on o
+    accepted_account : ready o.leaves ≡ true → refusal K j v ≡ 0 → GoesOn o
     unfolding records
     accepted_account room ok =
         let e = accepted_turn meets K j v o T ok in
@@ -129,7 +129,7 @@ module _ (meets : Meets) (K : Rules) (z : Sizes) (cs : List ℕ) (ss : List (Lis
         let at = next (run_of K (start cs ss) a.turns) (next_event K (start cs ss) a.turns j) in
         let request = asks K j v in
         let left : World = world (entered v.tape j request T.trail T.last) (stored request v.cells) (set v.states j (K.after (get_or v.states j []) (brought request v.cells))) in
-        subst Goes_on (sym e)
+        subst GoesOn (sym e)
         (record {
           turns = j ∷ a.turns;
           arcs = arcs;
@@ -139,7 +139,7 @@ module _ (meets : Meets) (K : Rules) (z : Sizes) (cs : List ℕ) (ss : List (Lis
           settles = subst (λ (x : Answered). ready x.leaves ≡ true) e room;
         })
 
-    pub goes_on : ready o.leaves ≡ true → Goes_on o
+    pub goes_on : ready o.leaves ≡ true → GoesOn o
     goes_on room = elim (cases_eq (refusal K j v) 0) [ inl ok ↦ accepted_account room ok | inr never ↦ refused_account never ]
 
 -- a turn keeps the sizes

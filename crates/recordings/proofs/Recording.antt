@@ -104,12 +104,12 @@ module _ (meets : Meets) (K : Rules) (z : Sizes) (cs : List ℕ) (ss : List (Lis
   is_next : by ≡ recalls.next_access r j
   is_next = now.access_is meets K z cs ss u L w t j p
 
-  abbrev Goes_on : Request → List Numbers → Numbers → Type 0
-  Goes_on q trail last =
+  abbrev GoesOn : Request → List Numbers → Numbers → Type 0
+  GoesOn q trail last =
       Logs meets r (ev j (access (λ c. c) q)) N L last (logged (next r (ev j (access (λ c. c) q))) (arcs_to by N (recorder.candidates_for z.cores history j (touched q)) trail) L)
       × Recalls (ev j (access (λ c. c) q) ∷ r) (remembered_as history by (touched q))
 
-  goes_on : (q : Request) (trail : List Numbers) (last : Numbers) → halts q ≡ false → within q z.cells ≡ true → Within meets z.cores history j (touched q) N trail last → Goes_on q trail last
+  goes_on : (q : Request) (trail : List Numbers) (last : Numbers) → halts q ≡ false → within q z.cells ≡ true → Within meets z.cores history j (touched q) N trail last → GoesOn q trail last
   goes_on Halt trail last h k s = absurd (false≢true (sym h))
   goes_on Local trail last h k s =
       (record { between = N; judged = subst (λ l. Judged meets (ev j local) (next r (ev j local)) l N L N L) (no_candidates r j) none_left; noted = s.1 }, local_kept r history t.recalls j)

@@ -15,12 +15,12 @@ use Rattle.sessions.specs.Replaying.{stage_of}
 
 module _ (next : List ℕ → List ℕ → Request) (after : List ℕ → List ℕ → ℕ → List ℕ) (text store : List ℕ) (s : Session) (js : List ℕ) where
   -- i of the steps were taken from s, and said these answers
-  pub record Goes_on (i : ℕ) (answers : List (List ℕ)) (R : Replayer) (cells : List ℕ) (states : List (List ℕ)) : Type 0 where
+  pub record GoesOn (i : ℕ) (answers : List (List ℕ)) (R : Replayer) (cells : List ℕ) (states : List (List ℕ)) : Type 0 where
     pub carried : ℕ
     pub ends : walked next after text store s js ≡ walked next after text store (session carried R cells states) (drop i js)
     pub says : steps_said next after text store s js ≡ answers ++ steps_said next after text store (session carried R cells states) (drop i js)
 
-  pub starts : (answers : List (Result Done StepRefusal)) → answers ≡ [] → s.carried ≡ 0 → Goes_on 0 (map step_numbers answers) s.replayer s.cells s.states
+  pub starts : (answers : List (Result Done StepRefusal)) → answers ≡ [] → s.carried ≡ 0 → GoesOn 0 (map step_numbers answers) s.replayer s.cells s.states
   starts answers e none = record {
     carried = 0;
     ends = ap (λ k. walked next after text store (session k s.replayer s.cells s.states) js) none;
@@ -29,9 +29,9 @@ module _ (next : List ℕ → List ℕ → Request) (after : List ℕ → List �
   }
 
   pub goes_on : (i : ℕ) (answers answers' : List (Result Done StepRefusal)) (r : Result Done StepRefusal) (R R' : Replayer) (cells cells' : List ℕ) (states states' : List (List ℕ)) → i < length js →
-      Goes_on i (map step_numbers answers) R cells states →
+      GoesOn i (map step_numbers answers) R cells states →
       ◌≡◌ {A = Outcome} (record { says = step_numbers r; replayer = R'; cells = cells'; states = states' }) (stepped next after text R cells states store (get_or js i 0)) →
-      answers' ≡ answers ++ (r ∷ []) → Goes_on (i + 1) (map step_numbers answers') R' cells' states'
+      answers' ≡ answers ++ (r ∷ []) → GoesOn (i + 1) (map step_numbers answers') R' cells' states'
   goes_on i answers answers' r R R' cells cells' states states' within f e q =
       let j = get_or js i 0 in
       let here = session f.carried R cells states in
@@ -49,7 +49,7 @@ module _ (next : List ℕ → List ℕ → Request) (after : List ℕ → List �
             ∙ ap (λ a. a ++ steps_said next after text store (session c R' cells' states') (drop (i + 1) js)) (sym put);
       }
 
-  pub ends : (i : ℕ) (answers : List (List ℕ)) (R : Replayer) (cells : List ℕ) (states : List (List ℕ)) → length js ≤ i → Goes_on i answers R cells states →
+  pub ends : (i : ℕ) (answers : List (List ℕ)) (R : Replayer) (cells : List ℕ) (states : List (List ℕ)) → length js ≤ i → GoesOn i answers R cells states →
       (answers ≡ steps_said next after text store s js) × (stage R cells states ≡ stage_of (walked next after text store s js))
   ends i answers R cells states past f =
       let here = session f.carried R cells states in

@@ -2,7 +2,7 @@
 use Rattle.std.proofs.Common.{◌≡◌, ◌≤◌, map, length, vec_items, vec_len, vec_capacity}
 use Rattle.replayer.specs.Answers.{step_numbers}
 use Rattle.replayer.specs.Runs.{session}
-use Rattle.sessions.proofs.Walks.{Goes_on}
+use Rattle.sessions.proofs.Walks.{GoesOn}
 use Rattle.sessions.proofs.replaying.take_steps.Given as goal
 
 abbrev pub invariant-loop-j : goal.invariant-loop-j
@@ -10,5 +10,5 @@ invariant-loop-j g l =
     let s = g.K.Core.state in
     (vec_len l.answers ≡ l.j-index)
     × (length l.steps ≤ vec_capacity l.answers)
-    × Goes_on g.K.Core.next g.K.Core.after l.text l.store (session 0 l.initial.replayer l.initial.cells (map s l.initial.cores)) l.steps l.j-index
+    × GoesOn g.K.Core.next g.K.Core.after l.text l.store (session 0 l.initial.replayer l.initial.cells (map s l.initial.cores)) l.steps l.j-index
     (map step_numbers (vec_items l.answers)) l.replayer l.cells (map s l.cores)
