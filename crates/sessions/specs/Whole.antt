@@ -75,7 +75,7 @@ pub record Whole (meets : Meets) (K : Rules) (z : Sizes) (turns steps : List ℕ
   pub surplus : drop (z.cores * z.log_bytes) later.store ≡ drop (z.cores * z.log_bytes) before.store
   -- which arcs: within one target the latest position first; and by how the reducer meets its bounds,
   -- with equality (exact) just the transitive reduction between cores of the run, each arc once;
-  -- with 0 (keep_all) every candidate; with known numbers alone (pairwise) every candidate whose count is above every source count logged from its core to this one
+  -- with 0 (keep-all) every candidate; with known numbers alone (pairwise) every candidate whose count is above every source count logged from its core to this one
   pub latest_first : (k : ℕ) → LatestFirst (run_of K (first_memory z before) accepted) (log k arcs)
   pub exact : ((n b : Numbers) → meets n b → n ≡ b) → ReductionLogged (run_of K (first_memory z before) accepted) arcs
   pub keep_all : ((n b : Numbers) → meets n b → n ≡ zeros) → arcs ≡ every_candidate (run_of K (first_memory z before) accepted)
