@@ -1,5 +1,5 @@
-// `compared` reads cases from standard input, each an input of the bench program and the lines that a second,
-// independent program answers to it, and says for how many of them the bench program answers the same.
+// `compared` reads cases from standard input, each an input of the bench program and the lines expected in answer,
+// and says for how many of them the bench program answers just these.
 #![tactic(auto)]
 
 use bench_answer::answer::answer;

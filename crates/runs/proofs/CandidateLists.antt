@@ -17,7 +17,7 @@ pub record Picked (h : Run) (e : Event) (t : Run) (y : Candidate) : Type 0 where
 picked_up : (h : Run) (e f : Event) (t : Run) (y : Candidate) → Picked h e t y → Picked h e (f ∷ t) y
 picked_up h e f t y p = record { given = p.given; inside = in_up f t y.source p.inside }
 
--- the candidate that core-of f gives, if it is the turn f itself
+-- the candidate that `core_of f` gives, if it is the turn f itself
 pub kept_source : (h : Run) (e f : Event) (t : Run) (x : Candidate) → candidate h e (core_of f) ≡ some x →
     x.source.count ≡ suc (done t (core_of f)) → x.source ≡ next t f
 kept_source h e f t x o q = same x.source (next t f) (cases h e (core_of f) x o).core q
