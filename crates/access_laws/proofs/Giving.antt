@@ -54,10 +54,6 @@ module _ (r : Run) where
   else_gives k (Some a) none p w s u = absurd s
   else_gives k (Some a) (some b) p w s u = ((λ i. record { source = is_same a (record { core = k; count = b }) s i; kind = Read }), s.position)
 
-  gives_none : (o : Option Candidate) → Gives o none → o ≡ None
-  gives_none None g = refl
-  gives_none (Some x) g = absurd g
-
   -- core by core
   module _ (e : Event) where
     abbrev Each : List (Option Candidate) → List ℕ → Type 0

@@ -1,9 +1,9 @@
 -- Remembering each access keeps what the run says of each cell's last write and latest reads.
-use Rattle.std.proofs.Common.{◌≡◌, ℕ, zero, suc, ◌<◌, ◌&&◌, ltb, List, [], ◌∷◌, length, get_or, set, replicate, Some, None, Option, sym, refl, ap, ◌∙◌, subst, inl, inr, arith}
+use Rattle.std.proofs.Common.{◌≡◌, ℕ, zero, suc, ◌<◌, ◌&&◌, ltb, List, [], ◌∷◌, length, get_or, set, Some, None, Option, sym, refl, ap, ◌∙◌, subst, inl, inr, arith}
 use mathlib.Core.Option.{none, some}
 use mathlib.Core.Option as of_run
 use native.Mathlib.Decide.{ℕ_discrete}
-use Rattle.std.proofs.lemmas.List.{get_or-set_same, get_or-set_other, length-set}
+use Rattle.std.proofs.lemmas.List.{get_or-set_same, get_or-set_other, length-set, length-replicate, get_or-replicate}
 use Rattle.std.proofs.lemmas.Bool.{and_from, lt-ltb, cond-true, cases_eq}
 use Rattle.reducers.specs.declared.interface.AccessKind.{AccessKind}
 use Rattle.reducers.specs.declared.interface.AccessKind.TheVariants.{Read, Write}
@@ -53,21 +53,12 @@ no_read (suc (suc zero)) = refl
 no_read (suc (suc (suc zero))) = refl
 no_read (suc (suc (suc (suc k)))) = refl
 
-all_untouched : (n c : ℕ) → c < n → get_or (replicate n untouched) c no_cell ≡ untouched
-all_untouched zero c h = absurd (omega arith)
-all_untouched (suc n) zero h = refl
-all_untouched (suc n) (suc c) h = all_untouched n c (omega arith)
-
-length_same : (n : ℕ) → length (replicate n untouched) ≡ n
-length_same zero = refl
-length_same (suc n) = ap suc (length_same n)
-
 pub nothing_is_recalled_at_first : NothingIsRecalledAtFirst
 nothing_is_recalled_at_first = record {
-  size = length_same 256;
-  rows = λ c h. ap (λ x. length x.reads) (all_untouched 256 c h);
-  writes = λ c h. subst (λ (x : CellHistory). SameWrite [] x.last_write none) (sym (all_untouched 256 c h)) tt;
-  reads = λ c k h l. subst (λ (o : Option Access). SameRead [] k o none) (sym (ap (λ x. get_or x.reads k None) (all_untouched 256 c h) ∙ no_read k)) tt;
+  size = length-replicate 256 untouched;
+  rows = λ c h. ap (λ x. length x.reads) (get_or-replicate 256 c untouched no_cell h);
+  writes = λ c h. subst (λ (x : CellHistory). SameWrite [] x.last_write none) (sym (get_or-replicate 256 c untouched no_cell h)) tt;
+  reads = λ c k h l. subst (λ (o : Option Access). SameRead [] k o none) (sym (ap (λ x. get_or x.reads k None) (get_or-replicate 256 c untouched no_cell h) ∙ no_read k)) tt;
 }
 
 module _ (r : Run) (cells : List CellHistory) (w : Recalls r cells) where

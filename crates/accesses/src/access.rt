@@ -1,7 +1,8 @@
 ghost use Rattle.std.specs.Prelude.{◌≡◌};
 ghost use Rattle.accesses.specs.Histories.{candidate as candidate_of};
 
-use reducers::interface::{AccessKind, Source};
+use records::format::Source;
+use reducers::interface::AccessKind;
 
 // One access to a cell: instruction `count` of `core`, in accepted turn `position`.
 #[derive(Clone, Copy)]

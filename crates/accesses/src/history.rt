@@ -1,11 +1,11 @@
-ghost use Rattle.std.specs.Prelude.{◌≡◌, ◌<◌, [], ◌∷◌, replicate};
+ghost use Rattle.std.specs.Prelude.{◌≡◌, [], ◌∷◌, replicate};
 ghost use Rattle.accesses.specs.Histories.{untouched, remembered, remembering, from_core, candidates_of, candidates_at, other as other_than, position_of, latest_first};
 
 use crate::access::{Access, Candidate};
 use reducers::interface::AccessKind;
 
 // The last write of a cell, and each core's latest read since.
-#[derive(Clone, Copy)]
+#[derive(Clone, Copy, Default)]
 pub struct CellHistory {
     last_write: Option<Access>,
     reads: [Option<Access>; 4],
@@ -13,8 +13,7 @@ pub struct CellHistory {
 
 impl CellHistory {
     // A write forgets the reads before it; a read takes the place of the same core's.
-    fn remembered(self, access: Access, kind: AccessKind) -> CellHistory
-        requires { access.core < 4 }
+    fn remembered(mut self, access: Access, kind: AccessKind) -> CellHistory
         ensures { result ≡ remembered self access kind }
     {
         match kind {
@@ -23,56 +22,54 @@ impl CellHistory {
                 reads: [None; 4],
             },
             AccessKind::Read => {
-                let mut next = self;
-                next.reads[access.core as usize] = Some(access);
-                next
+                let i = usize::from(access.core);
+                if i < self.reads.len() {
+                    self.reads[i] = Some(access);
+                }
+                self
             }
         }
     }
 
     // What core `i` of the session's `cores` did last to the cell.
     fn from_core(self, cores: usize, i: usize) -> Option<Candidate>
-        requires { i < 4 }
         ensures { result ≡ from_core cores self i }
     {
         if i >= cores {
             return None;
         }
-        if let Some(access) = self.reads[i] {
-            return Some(access.candidate(AccessKind::Read));
-        }
-        match self.last_write {
-            Some(access) if access.core as usize == i => Some(access.candidate(AccessKind::Write)),
-            _ => None,
-        }
+        let read = self.reads.get(i).copied().flatten();
+        let write = self
+            .last_write
+            .filter(|access| usize::from(access.core) == i);
+        read.map(|access| access.candidate(AccessKind::Read))
+            .or(write.map(|access| access.candidate(AccessKind::Write)))
     }
 
     fn candidates(self, cores: usize, j: usize, kind: AccessKind) -> [Option<Candidate>; 3]
-        requires { j < 4 }
         ensures { result ≡ candidates_of cores self j kind }
     {
         match kind {
-            AccessKind::Read => match self.last_write {
-                Some(access) if access.core as usize != j && (access.core as usize) < cores => {
-                    [Some(access.candidate(AccessKind::Write)), None, None]
-                }
-                _ => [None, None, None],
-            },
-            AccessKind::Write => {
-                let a = self.from_core(cores, other(j, 0));
-                let b = self.from_core(cores, other(j, 1));
-                let c = self.from_core(cores, other(j, 2));
-                sorted(a, b, c)
+            AccessKind::Read => {
+                let write = self.last_write.filter(|access| {
+                    usize::from(access.core) != j && usize::from(access.core) < cores
+                });
+                [
+                    write.map(|access| access.candidate(AccessKind::Write)),
+                    None,
+                    None,
+                ]
             }
+            AccessKind::Write => sorted([0, 1, 2].map(|k| self.from_core(cores, other(j, k)))),
         }
     }
 }
 
 // The `k`-th of the cores other than `j`.
-fn other(j: usize, k: usize) -> usize
-    requires { k < 3 }
+fn other(j: usize, k: u8) -> usize
     ensures { result ≡ other_than j k }
 {
+    let k = usize::from(k);
     if k < j { k } else { k + 1 }
 }
 
@@ -80,20 +77,14 @@ fn other(j: usize, k: usize) -> usize
 fn position(candidate: Option<Candidate>) -> u32
     ensures { result ≡ position_of candidate }
 {
-    match candidate {
-        Some(c) => c.position,
-        None => 0,
-    }
+    candidate.map_or(0, |c| c.position)
 }
 
 // Latest position first.
-fn sorted(
-    a: Option<Candidate>,
-    b: Option<Candidate>,
-    c: Option<Candidate>,
-) -> [Option<Candidate>; 3]
-    ensures { result ≡ latest_first (a ∷ b ∷ c ∷ []) }
+fn sorted(candidates: [Option<Candidate>; 3]) -> [Option<Candidate>; 3]
+    ensures { result ≡ latest_first candidates }
 {
+    let [a, b, c] = candidates;
     let (p, q) = if position(b) >= position(c) {
         (b, c)
     } else {
@@ -118,12 +109,8 @@ impl History {
     pub fn new() -> History
         ensures { result.cells ≡ replicate 256 untouched }
     {
-        let untouched = CellHistory {
-            last_write: None,
-            reads: [None; 4],
-        };
         History {
-            cells: [untouched; 256],
+            cells: [CellHistory::default(); 256],
         }
     }
 
@@ -139,8 +126,7 @@ impl History {
         ensures { self.new.cells ≡ remembering self.old.cells cell access kind }
     {
         if access.core < 4 && cell < 256 {
-            let before = self.cells[cell];
-            self.cells[cell] = before.remembered(access, kind);
+            self.cells[cell] = self.cells[cell].remembered(access, kind);
         }
     }
 
@@ -155,10 +141,9 @@ impl History {
         ensures { result ≡ candidates_at cores self.now.cells cell j kind }
     {
         if j < 4 && cell < 256 {
-            let before = self.cells[cell];
-            before.candidates(cores, j, kind)
+            self.cells[cell].candidates(cores, j, kind)
         } else {
-            [None, None, None]
+            [None; 3]
         }
     }
 }

@@ -16,8 +16,9 @@ fn bench(rt: &HostRuntime) -> anyhow::Result<()> {
 fn main(rt: HostRuntime) -> ExitCode {
     match bench(&rt) {
         Ok(()) => ExitCode::SUCCESS,
-        Err(e) => match eprintln!(rt; "bench: {e}") {
-            Ok(()) | Err(_) => ExitCode::FAILURE,
-        },
+        Err(e) => {
+            let _ = eprintln!(rt; "bench: {e}");
+            ExitCode::FAILURE
+        }
     }
 }

@@ -4,12 +4,12 @@ use Rattle.std.proofs.lemmas.Bool.{and_from, le-leb}
 use Rattle.records.specs.Settings.{settled}
 use Rattle.bench_answer.specs.Answer.{sizes_for}
 
-pub settles : (P C cells bytes : ℕ) → 1 ≤ P → P ≤ 4 → 1 ≤ C → C ≤ 256 → cells ≡ C → bytes ≡ P * 4096 → settled (sizes_for P C) P cells bytes ≡ true
-settles P C cells bytes a b c d e f =
+pub settles : (P C cores cells bytes : ℕ) → 1 ≤ P → P ≤ 4 → 1 ≤ C → C ≤ 256 → cores ≡ P → cells ≡ C → bytes ≡ P * 4096 → settled (sizes_for P C) cores cells bytes ≡ true
+settles P C cores cells bytes a b c d p e f =
     and_from _ _
     (and_from _ _ (le-leb 1 P a)
     (and_from _ _ (le-leb P 4 b)
     (and_from _ _ (le-leb 1 C c)
     (and_from _ _ (le-leb C 256 d)
     (and_from _ _ refl (and_from _ _ refl (le-leb (P * 4096) bytes (omega (arith, f)))))))))
-    (and_from _ _ (le-leb P P (omega arith)) (le-leb C cells (omega (arith, e))))
+    (and_from _ _ (le-leb P cores (omega (arith, p))) (le-leb C cells (omega (arith, e))))

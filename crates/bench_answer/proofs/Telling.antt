@@ -1,11 +1,13 @@
 -- A whole session whose run is listed tells of its turns.
-use Rattle.std.proofs.Common.{◌≡◌, ℕ, ◌-◌, true, List, [], ◌∷◌, ◌++◌, map, reverse, length, get_or, replicate, IfOk, Some, None, Ok, Err, Result, sym, ap, ◌∙◌, subst, arith}
+use Rattle.std.proofs.Common.{◌≡◌, ℕ, ◌-◌, true, List, [], ◌∷◌, ◌++◌, map, reverse, length, get_or, Some, None, Err, sym, ap, ◌∙◌, subst, arith}
 use Rattle.std.proofs.lemmas.List.{take_all, drop_all, append-nil, length-map}
 use Rattle.std.proofs.lemmas.Bool.{false≢true}
 use Rattle.bench_listing.proofs.StoreArcs.{arcs_held}
 use Rattle.bench_listing.specs.Lines.{text_of}
 use Rattle.bench_listing.specs.Runs.{RunArc, arcs_in_store, run_lines}
 use Rattle.cores.specs.Memory.{Rules, Memory, start, plain}
+use Rattle.cores.specs.declared.interface.Request.{Request}
+use Rattle.recorder.specs.Turns.{rules}
 use Rattle.recordings.specs.ByTheRules.{ByTheRules}
 use Rattle.recordings.specs.Tracks.{logs_of}
 use Rattle.records.specs.Settings.{fits}
@@ -22,15 +24,9 @@ use Rattle.runs.specs.Reducers.{Reducer}
 use Rattle.bench_input.proofs.Finding.{described_so, so_described}
 use Rattle.bench_input.specs.Described.{described}
 use Rattle.bench_input.specs.Session.{Session}
-use Rattle.bench_input.specs.declared.input.Kind.{Kind}
 use Rattle.bench_input.specs.declared.input.Reduction.{Reduction}
-use Rattle.bench_answer.specs.Answer.{rules_for, state_at, reducer_for, sizes_for, lines_of, decided_lines, session_lines, bad_text, BadExactly}
+use Rattle.bench_answer.specs.Answer.{reducer_for, lines_of, decided_lines, session_lines, bad_text, BadExactly}
 use Rattle.bench_answer.specs.Told.{Told}
-
--- what holds of a made value holds of it in other words
-pub made_so : {X Y : Type 0} (r : Result X Y) (P Q : X → Type 0) → ((x : X) → P x → Q x) → IfOk r P → IfOk r Q
-made_so (Ok x) P Q f h = f x h
-made_so (Err e) P Q f h = tt
 
 -- where the sizes fit, a session is not refused
 pub not_refused : {X : Type 0} (state : X → List ℕ) (meets : Meets) (K : Rules) (z : Sizes) (turns steps : List ℕ) (before later : Buffers) (error : SessionError) (e : Refusal) →
@@ -87,15 +83,12 @@ told_reduced meets asked is q d K z m turns text t =
 pub as_many : {X : Type 0} (f : X → List ℕ) (g : ℕ → List ℕ) (row items : List X) (starts : List ℕ) → row ≡ items → map f items ≡ map g starts → length row ≡ length starts
 as_many f g row items starts r e = ap length r ∙ sym (length-map items f) ∙ ap length e ∙ length-map starts g
 
--- cores of the kind and at the places that the session names run as the session
-pub lines_for : {X : Type 0} (state : X → List ℕ) (is : Kind) (s : Session) → s.kind ≡ is → length s.starts ≡ s.cores → (row items : List X) (starts text turns : List ℕ) →
-    row ≡ items → map state items ≡ map (state_at is) starts → starts ≡ s.starts → text ≡ s.text → turns ≡ s.turns →
-    text_of (decided_lines (reducer_for s.reduction) (rules_for is text) (sizes_for (length row) s.cells) (start (replicate s.cells 0) (map state row)) turns) ≡ text_of (session_lines s)
-lines_for state is s kind many row items starts text turns r e places texts moves =
-    let cores = as_many state (state_at is) row items starts r e ∙ ap length places ∙ many in
-    let states = ap (map state) r ∙ e ∙ ap (map (state_at is)) places in
-    (λ i. text_of (decided_lines (reducer_for s.reduction) (rules_for is (texts i)) (sizes_for (cores i) s.cells) (start (replicate s.cells 0) (states i)) (moves i)))
-    ∙ ap (λ k. text_of (decided_lines (reducer_for s.reduction) (rules_for k s.text) (sizes_for s.cores s.cells) (start (replicate s.cells 0) (map (state_at k) s.starts)) s.turns)) (sym kind)
+-- the same turns of the same session
+pub told_same : (meets : Meets) (next : List ℕ → List ℕ → Request) (after : List ℕ → List ℕ → ℕ → List ℕ) (z : Sizes) (text text' cells cells' turns turns' says : List ℕ) (states states' : List (List ℕ)) →
+    text ≡ text' → cells ≡ cells' → states ≡ states' → turns ≡ turns' →
+    Told meets (rules next after text) z (start cells states) turns says → Told meets (rules next after text') z (start cells' states') turns' says
+told_same meets next after z text text' cells cells' turns turns' says states states' a b c d h =
+    coe 0 1 (i. Told meets (rules next after (a i)) z (start (b i) (c i)) (d i) says) h
 
 -- the lines of a run are not bad
 pub not_bad : (arcs : List RunArc) (cells : List ℕ) (steps : ℕ) → text_of (run_lines arcs cells steps) ≡ bad_text → ⊥

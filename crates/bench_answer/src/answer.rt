@@ -1,5 +1,4 @@
-ghost use Rattle.std.specs.Prelude.{◌≡◌, ℕ, ◌≤◌, true, [], ◌∷◌, map, length, replicate, IfOk, string_bytes};
-ghost use Rattle.std.specs.Int.{IsInRange};
+ghost use Rattle.std.specs.Prelude.{◌≡◌, ℕ, true, [], ◌∷◌, map, length, replicate, IfOk, string_bytes};
 ghost use Rattle.bench_input.specs.Described.{described};
 ghost use Rattle.bench_input.specs.Session.{session_of};
 ghost use Rattle.bench_listing.specs.Lines.{text_of};
@@ -10,12 +9,14 @@ ghost use Rattle.replayer.specs.Answers.{run_numbers};
 ghost use Rattle.bench_answer.specs.Answer.{sizes_for, reducer_for, decided_lines, session_lines, answer_lines, BadExactly};
 ghost use Rattle.bench_answer.specs.Told.{Told};
 
-use crate::buffers::{register_cores, script_cores, zero_cells};
+use crate::buffers::cores_at;
 use bench_input::errors::InputError;
 use bench_input::input::{Input, Kind, Reduction};
 use bench_input::reading::read_input;
 use bench_listing::listing::list_run;
-use cores::interface::Core;
+use cores::interface::{Core, StartingCore};
+use cores::register::RegisterCore;
+use cores::script::ScriptCore;
 use records::faults::Refusal;
 use records::settings::Sizes;
 use reducers::exact::Exact;
@@ -67,86 +68,59 @@ fn list_session<K: Core, R: Reducer + Drop>(
         &[],
     ) {
         Ok(session) => session,
-        Err(error) => match error {
-            SessionError::NoMemory => return Err(AllocError),
-            // the sizes fit
-            SessionError::Refused(_) => unreachable(),
-        },
+        Err(SessionError::NoMemory) => return Err(AllocError),
+        // the sizes fit
+        Err(SessionError::Refused(_)) => unreachable(),
     };
     list_run(heap, store, sizes, cells, finished_steps(session.ended))
 }
 
-// The same with cells at 0 and logs of 4,096 bytes.
-fn run_session<K: Core, R: Reducer + Drop>(
+// The run that an input describes, with this kind of core and this reducer: cells at 0 and logs of 4,096 bytes.
+fn run_session<K: StartingCore, R: Reducer + Drop>(
     heap: Global,
+    input: &Input,
     reducer: R,
-    cell_count: usize,
-    text: &[u8],
-    cores: &mut [K],
-    turns: &[usize],
 ) -> Result<String, AllocError>
-    requires { (1 ≤ length cores.old) × ((length cores.old ≤ 4) × ((1 ≤ cell_count) × (cell_count ≤ 256))) }
-    ensures { IfOk result (λ s. Told R.Reducer.meets (rules K.Core.next K.Core.after text.now) (sizes_for (length cores.old) cell_count) (start (replicate cell_count 0) (map K.Core.state cores.old)) turns.now (string_bytes s)) }
+    ensures { IfOk result (λ s. Told R.Reducer.meets (rules K.Core.next K.Core.after input.now.text.items) (sizes_for input.now.cores input.now.cells) (start (replicate input.now.cells 0) (map K.StartingCore.first input.now.starts.items)) input.now.turns.items (string_bytes s)) }
 {
     let sizes = Sizes {
-        cores: cores.len(),
-        cells: cell_count,
+        cores: input.cores,
+        cells: input.cells,
         log_bytes: LOG_BYTES,
     };
-    let mut cells = zero_cells(heap, cell_count)?;
+    let mut cores = cores_at::<K>(heap, input.starts.as_slice())?;
+    let mut cells = vec![in heap; 0u16; sizes.cells]?;
     let mut store = vec![in heap; 0u8; sizes.cores * LOG_BYTES]?;
     list_session(
         heap,
         reducer,
         sizes,
-        text,
-        cores,
+        input.text.as_slice(),
+        cores.as_mut_slice(),
         cells.as_mut_slice(),
         store.as_mut_slice(),
-        turns,
+        input.turns.as_slice(),
     )
 }
 
 // The same with the reducer that the input names.
-fn run_reduced<K: Core>(
-    heap: Global,
-    reduction: Reduction,
-    cell_count: usize,
-    text: &[u8],
-    cores: &mut [K],
-    turns: &[usize],
-) -> Result<String, AllocError>
-    requires { (1 ≤ length cores.old) × ((length cores.old ≤ 4) × ((1 ≤ cell_count) × (cell_count ≤ 256))) }
-    ensures { IfOk result (λ s. string_bytes s ≡ text_of (decided_lines (reducer_for reduction) (rules K.Core.next K.Core.after text.now) (sizes_for (length cores.old) cell_count) (start (replicate cell_count 0) (map K.Core.state cores.old)) turns.now)) }
+fn run_kind<K: StartingCore>(heap: Global, input: &Input) -> Result<String, AllocError>
+    ensures { IfOk result (λ s. string_bytes s ≡ text_of (decided_lines (reducer_for input.now.reduction) (rules K.Core.next K.Core.after input.now.text.items) (sizes_for input.now.cores input.now.cells) (start (replicate input.now.cells 0) (map K.StartingCore.first input.now.starts.items)) input.now.turns.items)) }
 {
-    match reduction {
-        Reduction::KeepAll => run_session(heap, KeepAll, cell_count, text, cores, turns),
-        Reduction::Pairwise => {
-            run_session(heap, Pairwise::new(), cell_count, text, cores, turns)
-        }
-        Reduction::Exact => run_session(heap, Exact::new(), cell_count, text, cores, turns),
+    match input.reduction {
+        Reduction::KeepAll => run_session::<K, KeepAll>(heap, input, KeepAll),
+        Reduction::Pairwise => run_session::<K, Pairwise>(heap, input, Pairwise::new()),
+        Reduction::Exact => run_session::<K, Exact>(heap, input, Exact::new()),
     }
 }
 
-// The run that an input describes.
+// The same with the kind of core that it names too.
 fn run_input(heap: Global, input: &Input) -> Result<String, AllocError>
-    requires { (IsInRange 1 4 input.now.cores) × ((IsInRange 1 256 input.now.cells) × (length input.now.starts.items ≡ input.now.cores)) }
     ensures { IfOk result (λ s. string_bytes s ≡ text_of (session_lines (session_of input.now))) }
 {
-    let starts = input.starts.as_slice();
-    let text = input.text.as_slice();
-    let turns = input.turns.as_slice();
     match input.kind {
-        Kind::Script => {
-            let mut cores = script_cores(heap, starts)?;
-            let row = cores.as_mut_slice();
-            run_reduced(heap, input.reduction, input.cells, text, row, turns)
-        }
-        Kind::Register => {
-            let mut cores = register_cores(heap, starts)?;
-            let row = cores.as_mut_slice();
-            run_reduced(heap, input.reduction, input.cells, text, row, turns)
-        }
+        Kind::Script => run_kind::<ScriptCore>(heap, input),
+        Kind::Register => run_kind::<RegisterCore>(heap, input),
     }
 }
 
@@ -157,9 +131,7 @@ pub fn answer(heap: Global, input: &[u8]) -> Result<String, AllocError>
 {
     match read_input(heap, input) {
         Ok(described) => run_input(heap, &described),
-        Err(error) => match error {
-            InputError::Bad => String::from_str(heap, "bad\n"),
-            InputError::NoMemory => Err(AllocError),
-        },
+        Err(InputError::Bad) => String::from_str(heap, "bad\n"),
+        Err(InputError::NoMemory) => Err(AllocError),
     }
 }

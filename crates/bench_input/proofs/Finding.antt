@@ -3,6 +3,7 @@ use Rattle.std.proofs.Common.{◌≡◌, ℕ, zero, suc, ◌+◌, ◌*◌, ◌<�
 use Rattle.std.specs.List.{AllByRecursion}
 use Rattle.std.proofs.lemmas.List.{drop_more, drop-drop, drop_at, take_at, take-append-drop, length-take-le, get_or-drop}
 use Rattle.std.proofs.lemmas.Bool.{cond-true, and_parts, and_from, leb-true, le-leb}
+use Rattle.std.proofs.lemmas.Option.{cond_some}
 use Rattle.bench_input.specs.declared.input.Kind.{Kind}
 use Rattle.bench_input.specs.declared.input.Kind.TheVariants.{Script, Register}
 use Rattle.bench_input.specs.declared.input.Reduction.{Reduction}
@@ -10,8 +11,7 @@ use Rattle.bench_input.specs.declared.input.Reduction.TheVariants.{KeepAll, Pair
 use Rattle.bench_input.specs.Numbers.{numbers}
 use Rattle.bench_input.specs.Session.{Session, Describes, kind_number, reduction_number, session_numbers}
 use Rattle.bench_input.specs.Described.{all_bytes, kind_of, reduction_of, cores_of, text_size, text_of, turns_at, well_formed, the_session, session, session_in, described, FindsTheDescribed}
-use Rattle.bench_input.proofs.Fitting.{Fits, fits, tested}
-use Rattle.bench_input.proofs.Sessions.{true_from_some}
+use Rattle.bench_input.proofs.Fitting.{Fits, fits, tested, starts_length}
 
 bytes_so : (ns : List ℕ) → all_bytes ns ≡ true → AllByRecursion (λ b. b < 256) ns
 bytes_so [] e = tt
@@ -58,16 +58,13 @@ module _ (ns : List ℕ) where
   -- the parts of a list that fits, put together again
   module _ (f : Fits ns) where
     long : 6 + text_size ns + cores_of ns ≤ length ns
-    long = omega (arith, f.whole)
+    long = omega (arith, f.sizes.whole)
 
     turns_length : length (drop (turns_at ns + 1) ns) ≡ get_or ns (turns_at ns) 0
-    turns_length = omega (arith, f.whole, length-drop (turns_at ns + 1) ns)
+    turns_length = omega (arith, f.sizes.whole, length-drop (turns_at ns + 1) ns)
 
     text_length : length (text_of ns) ≡ 4 * get_or ns 4 0
     text_length = length-take-le (text_size ns) (drop 5 ns) (omega (arith, long, length-drop 5 ns))
-
-    starts_length : length (take (cores_of ns) (drop (5 + text_size ns) ns)) ≡ cores_of ns
-    starts_length = length-take-le (cores_of ns) (drop (5 + text_size ns) ns) (omega (arith, long, length-drop (5 + text_size ns) ns))
 
     head : ns ≡ get_or ns 0 0 ∷ get_or ns 1 0 ∷ get_or ns 2 0 ∷ get_or ns 3 0 ∷ get_or ns 4 0 ∷ drop 5 ns
     head =
@@ -95,13 +92,13 @@ module _ (ns : List ℕ) where
     describes bs e = record {
       items = get_or ns 4 0;
       order = e ∙ ap Some numbers_are;
-      cores = f.cores;
-      cells = f.cells;
-      few_items = f.items;
+      cores = f.sizes.cores;
+      cells = f.sizes.cells;
+      few_items = f.sizes.items;
       text = text_length;
       bytes = bytes_so (text_of ns) f.bytes;
-      starts = starts_length;
-      few_turns = omega (arith, turns_length, f.turns);
+      starts = starts_length ns f.sizes;
+      few_turns = omega (arith, turns_length, f.sizes.turns);
     }
 
 -- what a described session is like
@@ -111,11 +108,11 @@ described_so bs s = by_numbers (numbers bs) refl
   where
     by_session : (ns : List ℕ) → numbers bs ≡ Some ns → session ns ≡ Some s → Describes bs s
     by_session ns same e =
-        let p = true_from_some (well_formed ns) (the_session ns) s e in
+        let p = cond_some (well_formed ns) (the_session ns) s e in
         subst (Describes bs) p.1 (describes ns (fits ns p.0) bs same)
 
     by_numbers : (o : Option (List ℕ)) → numbers bs ≡ o → session_in o ≡ Some s → Describes bs s
-    by_numbers None same e = absurd (let z : ◌≡◌ {A = ℕ} 0 1 = cc in omega arith)
+    by_numbers None same e = absurd cc
     by_numbers (Some ns) same e = by_session ns same e
 
 module _ (s : Session) (n : ℕ) where
@@ -162,11 +159,13 @@ unfolding session
 session_back bs s d =
     let n = d.items in
     let f : Fits (told s n) = record {
-      cores = d.cores;
-      cells = d.cells;
-      items = d.few_items;
-      turns = omega (arith, count_is s n d.text d.starts, d.few_turns);
-      whole = whole_length s n d.text d.starts;
+      sizes = record {
+        cores = d.cores;
+        cells = d.cells;
+        items = d.few_items;
+        turns = omega (arith, count_is s n d.text d.starts, d.few_turns);
+        whole = whole_length s n d.text d.starts;
+      };
       kind = kind_few s.kind;
       reduction = reduction_few s.reduction;
       bytes = ap all_bytes (text_read s n d.text d.starts) ∙ so_bytes s.text d.bytes;

@@ -34,6 +34,12 @@ text_of ns = take (text_size ns) (drop 5 ns)
 abbrev pub turns_at : List ℕ → ℕ
 turns_at ns = 5 + text_size ns + cores_of ns
 
+abbrev pub starts_of : List ℕ → List ℕ
+starts_of ns = take (cores_of ns) (drop (5 + text_size ns) ns)
+
+abbrev pub turns_of : List ℕ → List ℕ
+turns_of ns = drop (turns_at ns + 1) ns
+
 abbrev pub the_session : List ℕ → Session
 the_session ns = record {
   kind = kind_of (slice_index ns 0);
@@ -41,8 +47,8 @@ the_session ns = record {
   cores = cores_of ns;
   cells = slice_index ns 3;
   text = text_of ns;
-  starts = take (cores_of ns) (drop (5 + text_size ns) ns);
-  turns = drop (turns_at ns + 1) ns;
+  starts = starts_of ns;
+  turns = turns_of ns;
 }
 
 -- each number of things is in its range, and there are as many numbers as they say

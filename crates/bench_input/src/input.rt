@@ -1,3 +1,6 @@
+ghost use Rattle.std.specs.Prelude.{◌≡◌, vec_len};
+ghost use Rattle.std.specs.Int.{IsInRange};
+
 // The kind of core, the same for all.
 #[derive(Clone, Copy)]
 pub enum Kind {
@@ -23,4 +26,7 @@ pub struct Input {
     pub text: Vec<u8>,
     pub starts: Vec<u16>,
     pub turns: Vec<usize>,
+    ghost some_cores: { IsInRange 1 4 cores },
+    ghost some_cells: { IsInRange 1 256 cells },
+    ghost each_starts: { vec_len starts ≡ cores },
 }

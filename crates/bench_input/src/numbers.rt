@@ -23,13 +23,9 @@ fn word_number(word: &[u8]) -> Option<u16>
 fn keep_word(found: &mut Vec<u16>, word: &[u8]) -> Result<(), InputError>
     ensures { Answers (λ _. found.new.items) (after found.old.items (numbers_in (word.now ∷ []))) result }
 {
-    if word.is_empty() {
-        return Ok(());
+    if !word.is_empty() {
+        found.push(word_number(word).ok_or(InputError::Bad)?)?;
     }
-    let Some(n) = word_number(word) else {
-        return Err(InputError::Bad);
-    };
-    found.push(n)?;
     Ok(())
 }
 
@@ -38,13 +34,8 @@ pub(crate) fn read_numbers(heap: Global, bytes: &[u8]) -> Result<Vec<u16>, Input
     ensures { Answers vec_items (numbers bytes.now) result }
 {
     let mut found = Vec::new(heap);
-    let mut start = 0;
-    for end in 0..bytes.len() {
-        if is_white(bytes[end]) {
-            keep_word(&mut found, &bytes[start..end])?;
-            start = end + 1;
-        }
+    for word in bytes.split(|b| is_white(*b)) {
+        keep_word(&mut found, word)?;
     }
-    keep_word(&mut found, &bytes[start..])?;
     Ok(found)
 }

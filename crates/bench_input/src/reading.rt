@@ -1,5 +1,5 @@
-ghost use Rattle.std.specs.Prelude.{◌≡◌, IfOk, if◌then◌else◌, Some, None, vec_items, nat_le};
-ghost use Rattle.bench_input.specs.Answers.{Answers, LaidOut, AnswersInWords};
+ghost use Rattle.std.specs.Prelude.{◌≡◌, drop, IfOk, MatchOption, if◌then◌else◌, Some, None, vec_items, nat_le};
+ghost use Rattle.bench_input.specs.Answers.{Answers, Counted, LaidOut, AnswersInWords};
 ghost use Rattle.bench_input.specs.Described.{all_bytes, kind_of, reduction_of, session, described};
 ghost use Rattle.bench_input.specs.Session.{session_of};
 
@@ -8,27 +8,31 @@ use crate::input::{Input, Kind, Reduction};
 use crate::numbers::read_numbers;
 use std::alloc::{AllocError, Global};
 
-impl Kind {
-    fn numbered(n: u16) -> Option<Kind>
-        ensures { result ≡ (if nat_le n 1 then Some (kind_of n) else None) }
-    {
+impl TryFrom<u16> for Kind {
+    type Error = InputError;
+
+    ghost try_from_gives = { λ n r. Answers (λ k. k) (if nat_le n 1 then Some (kind_of n) else None) r };
+
+    fn try_from(n: u16) -> Result<Kind, InputError> {
         match n {
-            0 => Some(Kind::Script),
-            1 => Some(Kind::Register),
-            _ => None,
+            0 => Ok(Kind::Script),
+            1 => Ok(Kind::Register),
+            _ => Err(InputError::Bad),
         }
     }
 }
 
-impl Reduction {
-    fn numbered(n: u16) -> Option<Reduction>
-        ensures { result ≡ (if nat_le n 2 then Some (reduction_of n) else None) }
-    {
+impl TryFrom<u16> for Reduction {
+    type Error = InputError;
+
+    ghost try_from_gives = { λ n r. Answers (λ k. k) (if nat_le n 2 then Some (reduction_of n) else None) r };
+
+    fn try_from(n: u16) -> Result<Reduction, InputError> {
         match n {
-            0 => Some(Reduction::KeepAll),
-            1 => Some(Reduction::Pairwise),
-            2 => Some(Reduction::Exact),
-            _ => None,
+            0 => Ok(Reduction::KeepAll),
+            1 => Ok(Reduction::Pairwise),
+            2 => Ok(Reduction::Exact),
+            _ => Err(InputError::Bad),
         }
     }
 }
@@ -39,10 +43,7 @@ fn bytes_of(heap: Global, numbers: &[u16]) -> Result<Vec<u8>, InputError>
 {
     let mut bytes = Vec::new(heap);
     for n in numbers {
-        let Ok(b) = u8::try_from(*n) else {
-            return Err(InputError::Bad);
-        };
-        bytes.push(b)?;
+        bytes.push(u8::try_from(*n).map_err(|_| InputError::Bad)?)?;
     }
     Ok(bytes)
 }
@@ -51,38 +52,54 @@ fn bytes_of(heap: Global, numbers: &[u16]) -> Result<Vec<u8>, InputError>
 fn cores_of(heap: Global, numbers: &[u16]) -> Result<Vec<usize>, AllocError>
     ensures { IfOk result (λ cores. cores.items ≡ numbers.now) }
 {
-    let mut cores = Vec::new(heap);
-    for n in numbers {
-        cores.push(usize::from(*n))?;
+    numbers.iter().map(|n| usize::from(*n)).collect(heap)
+}
+
+// The numbers of the turns, if their count comes first, is at most 1,024 and is kept to.
+fn counted(numbers: &[u16]) -> Option<&[u16]>
+    ensures { MatchOption result (¬ Counted numbers.now) (λ turns. Counted numbers.now × (turns.now ≡ drop 1 numbers.now)) }
+{
+    match numbers {
+        [count, turns @ ..] if *count <= 1024 && turns.len() == usize::from(*count) => Some(turns),
+        _ => None,
     }
-    Ok(cores)
 }
 
-// Where the parts of a session stand among its numbers.
+// The parts of a session among its numbers.
 #[derive(Clone, Copy)]
-struct Layout {
-    text_end: usize,
-    turns_at: usize,
+struct Layout<'a> {
+    kind: u16,
+    reduction: u16,
+    cores: u16,
+    cells: u16,
+    text: &'a [u16],
+    starts: &'a [u16],
+    turns: &'a [u16],
 }
 
-impl Layout {
+impl<'a> Layout<'a> {
     // None where a number of things is out of range, or there are too few numbers or too many.
-    fn of(numbers: &[u16]) -> Option<Layout>
+    fn of(numbers: &'a [u16]) -> Option<Layout<'a>>
         ensures { LaidOut numbers.now result }
     {
-        let [_, _, cores, cells, items, ..] = numbers else {
+        let [kind, reduction, cores, cells, items, rest @ ..] = numbers else {
             return None;
         };
-        if *cores < 1 || *cores > 4 || *cells < 1 || *cells > 256 || *items > 256 {
+        if !(1..=4).contains(cores) || !(1..=256).contains(cells) || *items > 256 {
             return None;
         }
-        let text_end = 5 + 4 * usize::from(*items);
-        let turns_at = text_end + usize::from(*cores);
-        let turns = usize::from(*numbers.get(turns_at)?);
-        if turns > 1024 || numbers.len() != turns_at + 1 + turns {
-            return None;
-        }
-        Some(Layout { text_end, turns_at })
+        let (text, rest) = rest.split_at_checked(4 * usize::from(*items))?;
+        let (starts, rest) = rest.split_at_checked(usize::from(*cores))?;
+        let turns = counted(rest)?;
+        Some(Layout {
+            kind: *kind,
+            reduction: *reduction,
+            cores: *cores,
+            cells: *cells,
+            text,
+            starts,
+            turns,
+        })
     }
 }
 
@@ -90,26 +107,15 @@ impl Layout {
 fn input_of(heap: Global, numbers: &[u16]) -> Result<Input, InputError>
     ensures { Answers session_of (session numbers.now) result }
 {
-    let Some(Layout { text_end, turns_at }) = Layout::of(numbers) else {
-        return Err(InputError::Bad);
-    };
-    let Some(kind) = Kind::numbered(numbers[0]) else {
-        return Err(InputError::Bad);
-    };
-    let Some(reduction) = Reduction::numbered(numbers[1]) else {
-        return Err(InputError::Bad);
-    };
-    let text = bytes_of(heap, &numbers[5..text_end])?;
-    let starts = Vec::from_slice(heap, &numbers[text_end..turns_at])?;
-    let turns = cores_of(heap, &numbers[turns_at + 1..])?;
+    let parts = Layout::of(numbers).ok_or(InputError::Bad)?;
     Ok(Input {
-        kind,
-        reduction,
-        cores: usize::from(numbers[2]),
-        cells: usize::from(numbers[3]),
-        text,
-        starts,
-        turns,
+        kind: Kind::try_from(parts.kind)?,
+        reduction: Reduction::try_from(parts.reduction)?,
+        cores: usize::from(parts.cores),
+        cells: usize::from(parts.cells),
+        text: bytes_of(heap, parts.text)?,
+        starts: Vec::from_slice(heap, parts.starts)?,
+        turns: cores_of(heap, parts.turns)?,
     })
 }
 

@@ -1,11 +1,14 @@
 -- The arcs of a store, listed record by record and log by log.
-use Rattle.std.proofs.Common.{◌≡◌, ℕ, suc, ◌+◌, ◌≤◌, true, false, List, [], ◌∷◌, ◌++◌, map, length, sym, refl, ap, ◌∙◌, append_assoc, append-nil, arith}
-use Rattle.std.proofs.lemmas.Bool.{cond-true, cond-false}
+use Rattle.std.proofs.Common.{◌≡◌, ℕ, suc, ◌+◌, List, [], ◌∷◌, ◌++◌, map, Ok, sym, refl, ap, ◌∙◌, append_assoc, append-nil, arith}
+use Rattle.records.specs.declared.reading.Reader.{Reader}
+use Rattle.records.specs.declared.reading.State.TheVariants.{Before}
 use Rattle.records.specs.declared.settings.Sizes.{Sizes}
 use Rattle.records.specs.Format.{LogArc, Entry, head, arc, end}
-use Rattle.records.specs.Settings.{fits}
+use Rattle.records.specs.Reading.{view, reader_at, reader_as}
+use Rattle.logs.specs.Walk.{reading_from}
+use Rattle.logs.proofs.Cores.{new_reader}
 use Rattle.bench_listing.specs.Lines.{joined, text_of}
-use Rattle.bench_listing.specs.Runs.{RunArc, arc_line, arc_to, arcs_by_core, arcs_logged, arcs_in_store, arcs_text, log_text}
+use Rattle.bench_listing.specs.Runs.{RunArc, arc_line, arc_to, arcs_by_core, arcs_logged, arcs_text, log_text}
 use Rattle.bench_listing.proofs.Texts.{in_turn, text_append}
 
 -- one record more
@@ -37,22 +40,12 @@ pub none_written : (arcs : ℕ → List LogArc) (s : List ℕ) → s ≡ s ++ ar
 unfolding arcs_by_core
 none_written arcs s = sym (append-nil s)
 
--- the logs below core n are written, and then core n's
-pub log_written : (arcs : ℕ → List LogArc) (n : ℕ) (s₀ s₁ s₂ : List ℕ) → s₁ ≡ s₀ ++ arcs_text (arcs_by_core arcs n) → s₂ ≡ s₁ ++ arcs_text (map (arc_to n) (arcs n)) →
-    s₂ ≡ s₀ ++ arcs_text (arcs_by_core arcs (n + 1))
-log_written arcs n s₀ s₁ s₂ before wrote =
+-- the logs below core n are written, and then core n's, by a new reader
+pub log_written : (store : List ℕ) (z : Sizes) (n : ℕ) (r : Reader) → reader_as (Ok r) ≡ reader_at store z n 0 Before → (s₀ s₁ s₂ : List ℕ) →
+    s₁ ≡ s₀ ++ arcs_text (arcs_by_core (arcs_logged store z) n) → s₂ ≡ s₁ ++ log_text n (reading_from (view r)).entries → s₂ ≡ s₀ ++ arcs_text (arcs_by_core (arcs_logged store z) (n + 1))
+log_written store z n r new s₀ s₁ s₂ before wrote =
+    let arcs = arcs_logged store z in
     let here = map (arc_to n) (arcs n) in
     let next : suc n ≡ n + 1 = omega arith in
-    in_turn s₀ s₁ s₂ (arcs_text (arcs_by_core arcs n)) (arcs_text here) before wrote
+    in_turn s₀ s₁ s₂ (arcs_text (arcs_by_core arcs n)) (arcs_text here) before (wrote ∙ ap (λ v. s₁ ++ log_text n (reading_from v).entries) (new_reader store z n r new))
     ∙ ap (λ l. s₀ ++ l) (sym (arcs_append (arcs_by_core arcs n) here) ∙ ap arcs_text (sym (by_core_next arcs n)) ∙ ap (λ k. arcs_text (arcs_by_core arcs k)) next)
-
--- all logs are written, where the sizes fit the store, and else none
-module _ (store : List ℕ) (z : Sizes) (before : List ℕ) where
-  pub logs_written : (n : ℕ) (after : List ℕ) → true ≡ fits (length store) z → n ≤ z.cores → z.cores ≤ n → after ≡ before ++ arcs_text (arcs_by_core (arcs_logged store z) n) →
-      after ≡ before ++ arcs_text (arcs_in_store store z)
-  logs_written n after fit h₁ h₂ wrote =
-      let same : n ≡ z.cores = omega arith in
-      wrote ∙ ap (λ k. before ++ arcs_text (arcs_by_core (arcs_logged store z) k)) same ∙ ap (λ l. before ++ arcs_text l) (sym (cond-true _ _ _ (sym fit)))
-
-  pub no_logs : false ≡ fits (length store) z → before ≡ before ++ arcs_text (arcs_in_store store z)
-  no_logs fit = sym (append-nil before) ∙ ap (λ l. before ++ arcs_text l) (sym (cond-false _ _ _ (sym fit)))

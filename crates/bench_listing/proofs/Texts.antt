@@ -1,7 +1,7 @@
 -- Texts of several lines.
-use Rattle.std.proofs.Common.{◌≡◌, ℕ, ◌+◌, ◌<◌, ◌≤◌, List, [], ◌∷◌, ◌++◌, length, get_or, drop, sym, refl, ap, ◌∙◌, append_assoc, append-nil}
-use Rattle.std.proofs.lemmas.List.{at_drop_more, at_drop_all}
-use Rattle.bench_listing.specs.Lines.{joined, text_of}
+use Rattle.std.proofs.Common.{◌≡◌, ℕ, ◌+◌, ◌<◌, List, [], ◌∷◌, ◌++◌, map, length, get_or, take, decimal, sym, refl, ap, ◌∙◌, append_assoc, append-nil}
+use Rattle.std.proofs.lemmas.List.{take_more}
+use Rattle.bench_listing.specs.Lines.{spaced, joined, text_of}
 
 -- one text after another
 pub in_turn : (s₀ s₁ s₂ a b : List ℕ) → s₁ ≡ s₀ ++ a → s₂ ≡ s₁ ++ b → s₂ ≡ s₀ ++ (a ++ b)
@@ -12,13 +12,13 @@ text_append [] ys = refl
 text_append (line ∷ xs) ys =
     ap (λ l. joined line ++ (10 ∷ l)) (text_append xs ys) ∙ sym (append_assoc (joined line) (10 ∷ text_of xs) (text_of ys))
 
--- F is the text of the elements to come, which begins with the text t of the first
-module _ {X : Type 0} (F : List X → List ℕ) (t : X → List ℕ) (first : (x : X) (xs : List X) → F (x ∷ xs) ≡ t x ++ F xs) (none : F [] ≡ []) where
-  pub one_more : (out next goal : List ℕ) (xs : List X) (i : ℕ) (d : X) → i < length xs → next ≡ out ++ t (get_or xs i d) → out ++ F (drop i xs) ≡ goal →
-      next ++ F (drop (i + 1) xs) ≡ goal
-  one_more out next goal xs i d lt e inv =
-      ap (λ l. l ++ F (drop (i + 1) xs)) e ∙ append_assoc out (t (get_or xs i d)) (F (drop (i + 1) xs))
-      ∙ ap (λ l. out ++ l) (sym (first _ _) ∙ sym (at_drop_more F xs i d lt)) ∙ inv
+spaced_more : (xs : List ℕ) (n : ℕ) → spaced (map decimal (xs ++ (n ∷ []))) ≡ spaced (map decimal xs) ++ (32 ∷ decimal n)
+spaced_more [] n = ap (λ l. 32 ∷ l) (append-nil (decimal n))
+spaced_more (x ∷ xs) n = ap (λ l. 32 ∷ (decimal x ++ l)) (spaced_more xs n) ∙ ap (λ l. 32 ∷ l) (sym (append_assoc (decimal x) (spaced (map decimal xs)) (32 ∷ decimal n)))
 
-  pub no_more : (out goal : List ℕ) (xs : List X) (i : ℕ) → length xs ≤ i → out ++ F (drop i xs) ≡ goal → out ≡ goal
-  no_more out goal xs i le inv = sym (append-nil out) ∙ ap (λ l. out ++ l) (sym (at_drop_all F xs i le ∙ none)) ∙ inv
+-- a line of a word and numbers, with one number more
+pub number_more : (word xs : List ℕ) (i d : ℕ) → i < length xs →
+    joined (word ∷ map decimal (take i xs)) ++ (32 ∷ decimal (get_or xs i d)) ≡ joined (word ∷ map decimal (take (i + 1) xs))
+number_more word xs i d lt =
+    append_assoc word (spaced (map decimal (take i xs))) (32 ∷ decimal (get_or xs i d))
+    ∙ ap (λ l. word ++ l) (sym (spaced_more (take i xs) (get_or xs i d)) ∙ ap (λ ns. spaced (map decimal ns)) (sym (take_more xs i d lt)))

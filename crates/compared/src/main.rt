@@ -41,7 +41,7 @@ impl Comparison {
     }
 }
 
-fn compare(rt: &HostRuntime) -> anyhow::Result<()> {
+fn main(rt: HostRuntime) -> anyhow::Result<()> {
     let heap = rt.alloc();
     let mut comparison = Comparison::new(heap);
     for line in rt.lines(heap) {
@@ -51,8 +51,4 @@ fn compare(rt: &HostRuntime) -> anyhow::Result<()> {
     let differed = comparison.differed;
     println!(rt; "{agreed} cases agree, {differed} differ")?;
     Ok(())
-}
-
-fn main(rt: HostRuntime) -> anyhow::Result<()> {
-    compare(&rt)
 }

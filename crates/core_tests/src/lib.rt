@@ -4,7 +4,7 @@
 #[cfg(test)]
 mod tests {
     use cores::acting::{act, cell_exists, request_of, tell_core};
-    use cores::interface::{Core, Request};
+    use cores::interface::{Core, Request, StartingCore};
     use cores::register::RegisterCore;
     use cores::script::ScriptCore;
 

@@ -81,8 +81,8 @@ module _ (K : Rules) (m : Memory) where
 
   at_any : (turns : List ℕ) → Accepted K m turns → (later : List Outcome) (e : Outcome) (earlier : List Outcome) → outcomes K m turns ≡ later ++ (e ∷ earlier) →
       (c : ℕ) → Reads e.request c → Latest m.cells earlier c e.number
-  at_any [] a [] e earlier q c r = absurd (let z : ◌≡◌ {A = ℕ} 0 1 = cc in omega arith)
-  at_any [] a (x ∷ later) e earlier q c r = absurd (let z : ◌≡◌ {A = ℕ} 0 1 = cc in omega arith)
+  at_any [] a [] e earlier q c r = absurd cc
+  at_any [] a (x ∷ later) e earlier q c r = absurd cc
   at_any (j ∷ t) a [] e earlier q c r =
       let same : outcome K (plain K m t) j ≡ e = cc in
       let rest : outcomes K m t ≡ earlier = cc in

@@ -9,10 +9,7 @@ use crate::interface::{Core, Request};
 pub fn request_of<K: Core>(text: &[u8], cores: &[K], j: usize) -> Option<Request>
     ensures { result ≡ requested K.next text.now (map K.state cores.now) j }
 {
-    if j >= cores.len() {
-        return None;
-    }
-    let core = cores[j];
+    let core = *cores.get(j)?;
     Some(core.ask(text))
 }
 
@@ -22,9 +19,9 @@ pub fn cell_exists(request: Request, cell_count: usize) -> bool
 {
     match request {
         Request::Halt | Request::Local => true,
-        Request::Read { cell } => (cell as usize) < cell_count,
-        Request::Write { cell, .. } => (cell as usize) < cell_count,
-        Request::Exchange { cell, .. } => (cell as usize) < cell_count,
+        Request::Read { cell } | Request::Write { cell, .. } | Request::Exchange { cell, .. } => {
+            usize::from(cell) < cell_count
+        }
     }
 }
 
@@ -51,14 +48,13 @@ pub fn act(request: Request, cells: &mut [u16]) -> u16
 fn number_in(cells: &[u16], cell: u16) -> u16
     ensures { result ≡ slice_index cells.now cell }
 {
-    let at = cell as usize;
-    if at < cells.len() { cells[at] } else { 0 }
+    cells.get(usize::from(cell)).copied().unwrap_or(0)
 }
 
 fn store(cells: &mut [u16], cell: u16, number: u16)
     ensures { cells.new ≡ slice_set cells.old cell number }
 {
-    let at = cell as usize;
+    let at = usize::from(cell);
     if at < cells.len() {
         cells[at] = number;
     }

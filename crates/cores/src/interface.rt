@@ -34,3 +34,12 @@ pub trait Core: Copy {
     // A halted core keeps its state.
     ghost rests: { (text : List ℕ) (s : List ℕ) (n : ℕ) → next text s ≡ Halt → after text s n ≡ s };
 }
+
+// A kind of core that can be made from its first item alone.
+pub trait StartingCore: Core {
+    // The state at a first item, before any instruction.
+    ghost first: { ℕ → List ℕ };
+
+    fn new(place: u16) -> Self
+        ensures { Self.state result ≡ first place };
+}

@@ -6,12 +6,8 @@ ghost use Rattle.cores.specs.Text.{item_at};
 pub(crate) fn item_at(text: &[u8], place: u16) -> Option<[u8; 4]>
     ensures { result ≡ item_at text.now place }
 {
-    let at = 4 * place as usize;
-    if place == 65535 || text.len() < at {
+    if place == 65535 {
         return None;
     }
-    match &text[at..] {
-        [a, b, c, d, ..] => Some([*a, *b, *c, *d]),
-        _ => None,
-    }
+    text.get(4 * usize::from(place)..)?.first_chunk().copied()
 }

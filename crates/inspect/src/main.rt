@@ -4,41 +4,35 @@
 ghost use Rattle.std.specs.Prelude.{◌≡◌, IfOk, Some};
 ghost use Rattle.listing.specs.Words.{argument};
 
-use anyhow::anyhow;
+use anyhow::{Context, anyhow, bail};
 use listing::listing::list_logs;
 use listing::words::number_of;
 use records::settings::Sizes;
-use std::alloc::Global;
 use std::process::ExitCode;
 use std::{env, fs};
 
 // The number of an argument, which goes by `name`.
-fn number(heap: Global, name: &str, word: &str) -> anyhow::Result<usize>
+fn number(name: &str, word: &str) -> anyhow::Result<usize>
     ensures { IfOk result (λ n. argument word.now ≡ Some n) }
 {
-    match number_of(word.as_bytes()) {
-        Some(n) => Ok(n),
-        None => Err(anyhow!(format!(in heap; "{name} is no number from 0 to 65535: {word:?}")?)),
-    }
+    number_of(word.as_bytes()).context(format_args!(
+        "{name} is no number from 0 to 65535: {word:?}"
+    ))
 }
 
 fn inspect(rt: &HostRuntime) -> anyhow::Result<()> {
     let heap = rt.alloc();
-    let args: Vec<String> = match env::args(rt) {
-        Ok(words) => words.collect(heap)?,
-        Err(e) => return Err(anyhow!(format!(in heap; "cannot read the arguments: {e}")?)),
-    };
+    let args: Vec<String> = env::args(rt)
+        .map_err(|e| anyhow!("cannot read the arguments: {e}"))?
+        .collect(heap)?;
     let [_, file, p, c, l] = args.as_slice() else {
-        return Err(anyhow!("four arguments are needed"));
+        bail!("four arguments are needed");
     };
-    let cores = number(heap, "P", p.as_str())?;
-    let cells = number(heap, "C", c.as_str())?;
-    let log_bytes = number(heap, "L", l.as_str())?;
+    let cores = number("P", p.as_str())?;
+    let cells = number("C", c.as_str())?;
+    let log_bytes = number("L", l.as_str())?;
     // The path comes last, since an error keeps 120 bytes and cuts what is behind them.
-    let store = match fs::read(rt, file.as_str()) {
-        Ok(store) => store,
-        Err(e) => return Err(anyhow!(format!(in heap; "cannot read: {e}: {file:?}")?)),
-    };
+    let store = fs::read(rt, file.as_str()).map_err(|e| anyhow!("cannot read: {e}: {file:?}"))?;
     let sizes = Sizes {
         cores,
         cells,
@@ -53,8 +47,9 @@ fn inspect(rt: &HostRuntime) -> anyhow::Result<()> {
 fn main(rt: HostRuntime) -> ExitCode {
     match inspect(&rt) {
         Ok(()) => ExitCode::SUCCESS,
-        Err(e) => match eprintln!(rt; "inspect: {e}; usage: inspect FILE P C L") {
-            Ok(()) | Err(_) => ExitCode::FAILURE,
-        },
+        Err(e) => {
+            let _ = eprintln!(rt; "inspect: {e}; usage: inspect FILE P C L");
+            ExitCode::FAILURE
+        }
     }
 }

@@ -4,8 +4,8 @@ use Rattle.std.specs.Str.Parse.{digits_value, digits_value_after}
 use Rattle.std.specs.Char.{is_ascii_digit, digit_value}
 use Rattle.std.specs.Int.{IsInRange}
 use Rattle.std.specs.Str.{all_ascii_digits}
-use Rattle.std.proofs.lemmas.List.{take_more, take_all, take-append-drop}
-use Rattle.std.proofs.lemmas.Bool.{leb-true, le-leb, lt-ltb, and_parts, and_from, cond-true}
+use Rattle.std.proofs.lemmas.List.{take_more, take-append-drop}
+use Rattle.std.proofs.lemmas.Bool.{leb-true, le-leb, and_parts, and_from, cond-true}
 use Rattle.std.proofs.lemmas.Str.{digit_value_digit}
 use Rattle.listing.specs.Words.{argument, with_digit}
 
@@ -81,9 +81,3 @@ module _ (w : List ℕ) (n i : ℕ) (b : Begun (take i w) n) where
           let is : with_digit n (get_or w i 0) ≡ Some (n * 10 + (get_or w i 0 - 48)) = cond-true _ _ _ (and_from _ _ d (le-leb _ _ le)) in
           let z : ◌≡◌ {A = ℕ} 0 1 = cc in
           omega arith
-
-  pub digits_end : 0 < length w → length w ≤ i → Some n ≡ argument w
-  digits_end some le =
-      let all : Begun w n = subst (λ l. Begun l n) (take_all i w le) b in
-      let few : digits_value 10 w ≤ 65535 = omega (arith, all.writes, all.small) in
-      sym (cond-true _ _ _ (and_from _ _ (lt-ltb 0 (length w) some) (and_from _ _ all.digits (le-leb _ _ few))) ∙ ap Some all.writes)

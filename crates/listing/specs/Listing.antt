@@ -34,18 +34,24 @@ refused why = full_line (codes "refused: " ++ why)
 abbrev pub faulty : Fault → List ℕ
 faulty f = refused (fault_text f)
 
-unfoldable pub bad_sizes : List ℕ
-bad_sizes = refused (codes "bad setting: cores 1 to 4, cells 1 to 256, log bytes 12 to 16384, and a store of at least cores x log bytes")
+unfoldable pub bad_words : List ℕ
+bad_words = codes "bad setting: cores 1 to 4, cells 1 to 256, log bytes 12 to 16384, and a store of at least cores x log bytes"
+
+abbrev pub bad_sizes : List ℕ
+bad_sizes = refused bad_words
 
 abbrev pub verdict_line : Result (List ℕ) Fault → List ℕ
 verdict_line (Ok _) = accepted
 verdict_line (Err f) = faulty f
 
 -- the same, by what reading all logs answers
+abbrev pub verdict_text : Result (List ℕ) Refusal → List ℕ
+verdict_text (Ok _) = codes "accepted"
+verdict_text (Err BadSetting) = codes "refused: " ++ bad_words
+verdict_text (Err (LogFault e)) = codes "refused: " ++ fault_text (session_fault e)
+
 abbrev pub verdict_of : Result (List ℕ) Refusal → List ℕ
-verdict_of (Ok _) = accepted
-verdict_of (Err BadSetting) = bad_sizes
-verdict_of (Err (LogFault e)) = faulty (session_fault e)
+verdict_of r = full_line (verdict_text r)
 
 -- the whole text
 abbrev pub listing : List ℕ → Sizes → List ℕ

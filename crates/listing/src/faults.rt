@@ -5,36 +5,49 @@ ghost use Rattle.listing.specs.Faults.{cause_words, fault_text};
 use records::faults::{ByteFault, Location, RecordFault, SessionFault};
 use std::fmt;
 
-// A fault by its numbers: the layer, where it is, the cause.
-fn numbers_of(found: SessionFault) -> (u8, Location, u8)
-    ensures { fault result.0 result.1 result.2 ≡ session_fault found }
+// A fault by its numbers (the layer, where it is, the cause), and what the cause says.
+#[tactic(auto, unfolding(crate::specs::Faults::cause_words))]
+fn parts_of(found: SessionFault) -> (u8, Location, u8, &'static str)
+    ensures numbers { fault result.0 result.1 result.2 ≡ session_fault found }
+    ensures words { result.3.now ≡ cause_words (session_fault found).cause }
 {
     match found {
-        SessionFault::Read(RecordFault::Bytes(ByteFault::Cut(at))) => (1, at, 1),
-        SessionFault::Read(RecordFault::Bytes(ByteFault::Mark(at))) => (1, at, 2),
-        SessionFault::Read(RecordFault::BadHead(at)) => (2, at, 3),
-        SessionFault::Read(RecordFault::BadArc(at)) => (2, at, 4),
-        SessionFault::Read(RecordFault::BadEnd(at)) => (2, at, 5),
-        SessionFault::Source(at) => (3, at, 6),
-    }
-}
-
-// What the cause of a fault says.
-fn words_of(found: SessionFault) -> &'static str
-    ensures { result.now ≡ cause_words (session_fault found).cause }
-{
-    match found {
-        SessionFault::Read(RecordFault::Bytes(ByteFault::Cut(_))) =>
+        SessionFault::Read(RecordFault::Bytes(ByteFault::Cut(at))) => (
+            1,
+            at,
+            1,
             "the record or its mark is cut by the end of the log",
-        SessionFault::Read(RecordFault::Bytes(ByteFault::Mark(_))) =>
+        ),
+        SessionFault::Read(RecordFault::Bytes(ByteFault::Mark(at))) => (
+            1,
+            at,
+            2,
             "the mark is not that of a head, an arc or an end",
-        SessionFault::Read(RecordFault::BadHead(_)) =>
+        ),
+        SessionFault::Read(RecordFault::BadHead(at)) => (
+            2,
+            at,
+            3,
             "the first record is not this log's head, or a head comes later",
-        SessionFault::Read(RecordFault::BadArc(_)) =>
+        ),
+        SessionFault::Read(RecordFault::BadArc(at)) => (
+            2,
+            at,
+            4,
             "the arc has a source core that is this core or not of the session, a count of 0, a target below the one before, or the same target and source core twice",
-        SessionFault::Read(RecordFault::BadEnd(_)) =>
+        ),
+        SessionFault::Read(RecordFault::BadEnd(at)) => (
+            2,
+            at,
+            5,
             "the end gives another number of arcs, or fewer instructions than the last target",
-        SessionFault::Source(_) => "the source count is above the instructions of the source core",
+        ),
+        SessionFault::Source(at) => (
+            3,
+            at,
+            6,
+            "the source count is above the instructions of the source core",
+        ),
     }
 }
 
@@ -48,10 +61,8 @@ impl fmt::Display for FaultLine {
     ghost output = { λ x. Some (fault_text (session_fault x.found)) };
 
     fn fmt<W: fmt::Write>(&self, f: &mut fmt::Formatter<W>) -> fmt::Result {
-        let (layer, at, cause) = numbers_of(self.found);
-        let core = at.core;
-        let offset = at.offset;
-        let words = words_of(self.found);
+        let (layer, at, cause, words) = parts_of(self.found);
+        let Location { core, offset } = at;
         write!(
             f,
             "layer {layer} fault in the log of core {core} at offset {offset}, cause {cause}: {words}"

@@ -1,5 +1,5 @@
 -- The loops over the cores of a session: what is still to be read gives what the whole session gives.
-use Rattle.std.proofs.Common.{◌≡◌, ℕ, suc, ◌+◌, ◌-◌, ◌<◌, ◌≤◌, Bool, true, false, cond, ◌&&◌, ltb, List, length, set, Ok, Err, refl, ap, ◌∙◌, arith}
+use Rattle.std.proofs.Common.{◌≡◌, ℕ, suc, ◌+◌, ◌-◌, ◌<◌, ◌≤◌, Bool, true, false, cond, ◌&&◌, ltb, List, length, set, Ok, Err, Option, Result, sym, refl, ap, ◌∙◌, arith}
 use Rattle.records.specs.declared.reading.Reader.{Reader}
 use Rattle.records.specs.declared.reading.State.TheVariants.{Before}
 use Rattle.records.specs.declared.settings.Sizes.{Sizes}
@@ -7,15 +7,20 @@ use Rattle.records.specs.Faults.{Fault, bad_setting}
 use Rattle.records.specs.Reading.{View, view, reader_at, reader_as}
 use Rattle.records.specs.Settings.{fits, log_of, heading_of}
 use Rattle.logs.specs.Session.{read_log, hold_log, onward, gathered, tested}
-use Rattle.logs.specs.Walk.{at_front}
+use Rattle.logs.specs.Walk.{reading_by, at_front}
 
 cond_front : (b : Bool) (v w : View) (refused : List ℕ) → Ok v ≡ cond b (Ok w) (Err refused) → v ≡ w
 cond_front true v w refused q = cc
-cond_front false v w refused q = let z : ◌≡◌ {A = ℕ} 0 1 = cc in absurd (omega arith)
+cond_front false v w refused q = absurd cc
 
 -- a new reader stands at the front of its core's log
 pub new_reader : (store : List ℕ) (z : Sizes) (j : ℕ) (r : Reader) → reader_as (Ok r) ≡ reader_at store z j 0 Before → view r ≡ at_front (heading_of z j) (log_of store z j)
 new_reader store z j r q = cond_front (fits (length store) z && ltb j z.cores) (view r) (at_front (heading_of z j) (log_of store z j)) bad_setting q
+
+-- what is read through a new reader is its core's log
+pub read_here : (store : List ℕ) (z : Sizes) (j : ℕ) (r : Reader) → reader_as (Ok r) ≡ reader_at store z j 0 Before → (held : Option (List ℕ)) (x : Result ℕ Fault) → x ≡ (reading_by held (view r)).verdict →
+    (reading_by held (at_front (heading_of z j) (log_of store z j))).verdict ≡ x
+read_here store z j r new held x q = sym (q ∙ ap (λ v. (reading_by held v).verdict) (new_reader store z j r new))
 
 module _ (store : List ℕ) (z : Sizes) (j : ℕ) (counts : List ℕ) where
   gathered_next : (k n : ℕ) → (read_log store z j).verdict ≡ Ok n → gathered store z (suc k) j counts ≡ gathered store z k (j + 1) (set counts j n)

@@ -5,7 +5,7 @@ use Rattle.records.specs.Faults.{Fault}
 use Rattle.records.specs.Format.{Entry, bytes_of}
 use Rattle.records.specs.Reading.{Sight, View, Next, moved, advanced, instructions_in}
 use Rattle.records.proofs.Looking.{seen_fits, held_fits, size_pos}
-use Rattle.logs.specs.Walk.{Reading, prefixed, stopped, told, walk, look, look_held, reading_from, holding_from}
+use Rattle.logs.specs.Walk.{Reading, prefixed, stopped, told, walk, look, look_held, look_by, reading_from, holding_from, reading_by}
 
 -- what a step of the reader says of what was seen
 pub saw_some : (v w : View) (e : Entry) (x : Sight) → ◌≡◌ {A = Next} (record { says = Ok (Some e); reader = w }) (advanced v x) →
@@ -16,17 +16,17 @@ saw_some v w e (Ok (Some (y, t))) q =
     let same : e ≡ y = cc in
     let s : w.state ≡ t = ap (λ u. u.state) r in
     ((λ i. Ok (Some (sym same i, sym s i))), r ∙ (λ i. moved v (sym same i) (sym s i)))
-saw_some v w e (Ok None) q = let p = ap (λ n. n.says) q in let z : ◌≡◌ {A = ℕ} 0 1 = cc in absurd (omega arith)
-saw_some v w e (Err f) q = let p = ap (λ n. n.says) q in let z : ◌≡◌ {A = ℕ} 0 1 = cc in absurd (omega arith)
+saw_some v w e (Ok None) q = let p = ap (λ n. n.says) q in absurd cc
+saw_some v w e (Err f) q = let p = ap (λ n. n.says) q in absurd cc
 
 pub saw_none : (v w : View) (x : Sight) → ◌≡◌ {A = Next} (record { says = Ok None; reader = w }) (advanced v x) → (x ≡ Ok None) × (w ≡ v)
-saw_none v w (Ok (Some (y, t))) q = let p = ap (λ n. n.says) q in let z : ◌≡◌ {A = ℕ} 0 1 = cc in absurd (omega arith)
+saw_none v w (Ok (Some (y, t))) q = let p = ap (λ n. n.says) q in absurd cc
 saw_none v w (Ok None) q = (refl, ap (λ n. n.reader) q)
-saw_none v w (Err f) q = let p = ap (λ n. n.says) q in let z : ◌≡◌ {A = ℕ} 0 1 = cc in absurd (omega arith)
+saw_none v w (Err f) q = let p = ap (λ n. n.says) q in absurd cc
 
 pub saw_fault : (v w : View) (d : Fault) (x : Sight) → ◌≡◌ {A = Next} (record { says = Err d; reader = w }) (advanced v x) → x ≡ Err d
-saw_fault v w d (Ok (Some (y, t))) q = let p = ap (λ n. n.says) q in let z : ◌≡◌ {A = ℕ} 0 1 = cc in absurd (omega arith)
-saw_fault v w d (Ok None) q = let p = ap (λ n. n.says) q in let z : ◌≡◌ {A = ℕ} 0 1 = cc in absurd (omega arith)
+saw_fault v w d (Ok (Some (y, t))) q = let p = ap (λ n. n.says) q in absurd cc
+saw_fault v w d (Ok None) q = let p = ap (λ n. n.says) q in absurd cc
 saw_fault v w d (Err f) q = let p = ap (λ n. n.says) q in (let same : f ≡ d = cc in ap Err same)
 
 -- one step of a walk, by what is seen
@@ -83,6 +83,14 @@ look_fits v e t q = seen_fits v.heading v.log v.cursor v.state e t q
 
 pub held_look_fits : (counts : List ℕ) (v : View) (e : Entry) (t : State) → look_held counts v ≡ Ok (Some (e, t)) → length (bytes_of e) ≤ length v.log - v.cursor
 held_look_fits counts v e t q = held_fits counts v.heading v.log v.cursor v.state e t q
+
+pub starts_by : {Y : Type 0} (G : Reading → Y) (held : Option (List ℕ)) (v : View) → Going G (look_by held) (G (reading_by held v)) v
+starts_by G None v = reading_starts G v
+starts_by G (Some counts) v = holding_starts G counts v
+
+pub look_by_fits : (held : Option (List ℕ)) (v : View) (e : Entry) (t : State) → look_by held v ≡ Ok (Some (e, t)) → length (bytes_of e) ≤ length v.log - v.cursor
+look_by_fits None v e t q = look_fits v e t q
+look_by_fits (Some counts) v e t q = held_look_fits counts v e t q
 
 -- a round of the loop: the reader at v answered, and stands at w now
 module _ (see : View → Sight) (fits : (v : View) (e : Entry) (t : State) → see v ≡ Ok (Some (e, t)) → length (bytes_of e) ≤ length v.log - v.cursor)

@@ -1,8 +1,7 @@
 -- Reading a log to its end or first fault: the whole log holds, or the records before the fault are lawful and what stands there breaks the named cause.
-use Rattle.std.proofs.Common.{◌≡◌, ℕ, zero, suc, ◌+◌, ◌-◌, ◌/◌, ◌<◌, ◌≤◌, Bool, true, false, cond, ◌&&◌, eqb, leb, List, [], ◌∷◌, ◌++◌, map, length, drop, set, Some, Ok, Err, Result, sym, refl, ap, ◌∙◌, subst, inl, inr, arith}
+use Rattle.std.proofs.Common.{◌≡◌, ℕ, zero, suc, ◌+◌, ◌-◌, ◌/◌, ◌<◌, ◌≤◌, Bool, true, false, cond, ◌&&◌, eqb, leb, List, [], ◌∷◌, ◌++◌, length, drop, set, Some, Ok, Err, Result, sym, refl, ap, ◌∙◌, subst, inl, inr, arith}
 use Rattle.std.specs.List.{AllByRecursion}
-use Rattle.std.proofs.ByRecursion.{All-drop}
-use Rattle.std.proofs.lemmas.List.{drop-drop, append_assoc, append-nil, length-append, length-drop}
+use Rattle.std.proofs.lemmas.List.{drop-drop, drop_at, append_assoc, append-nil, length-append, length-drop, map_push}
 use Rattle.std.proofs.lemmas.Bool.{and_parts, eqb-true, eqb-false, leb-true, leb-false}
 use Rattle.records.specs.declared.reading.State.{State}
 use Rattle.records.specs.declared.reading.State.TheVariants.{Before, Among, After}
@@ -13,7 +12,7 @@ use Rattle.records.specs.Reading.{broken, entry_at, arc_stands, one_more, no_tar
 use Rattle.records.proofs.Looking.{entry_fits}
 use Rattle.logs.specs.Lawful.{Lawful, front, whole, BadEnd, wrong_arcs, too_few_instructions, Breaks, no_head, head_later, bad_arc, bad_end, Front, Judged}
 use Rattle.logs.specs.Walk.{Reading, prefixed, stopped, walk, look, reading_from, at_front}
-use Rattle.logs.proofs.Bytes.{written_back, drop_front, unread}
+use Rattle.logs.proofs.Bytes.{octets_drop, written_back, unread}
 use Rattle.logs.proofs.Going.{walk_some, walk_fault}
 use Rattle.logs.proofs.Rules.{Knows, knows_none, knows_push, stands_follows, fails_breaks, lawful_push, all_map, any_map}
 
@@ -25,12 +24,8 @@ pub written_append : (xs ys : List Entry) → written (xs ++ ys) ≡ written xs 
 written_append [] ys = refl
 written_append (x ∷ xs) ys = ap (λ r. bytes_of x ++ r) (written_append xs ys) ∙ sym (append_assoc (bytes_of x) (written xs) (written ys))
 
-pub map_push : (xs : List LogArc) (a : LogArc) → map arc (xs ++ (a ∷ [])) ≡ map arc xs ++ (arc a ∷ [])
-map_push [] a = refl
-map_push (x ∷ xs) a = ap (λ r. arc x ∷ r) (map_push xs a)
-
 pub front_push : (g : Heading) (xs : List LogArc) (a : LogArc) → front g (xs ++ (a ∷ [])) ≡ front g xs ++ (arc a ∷ [])
-front_push g xs a = ap (λ r. head g.core g.cores g.cells ∷ r) (map_push xs a)
+front_push g xs a = ap (λ r. head g.core g.cores g.cells ∷ r) (map_push arc xs a)
 
 -- one record more in front
 in_front_push : (es : List Entry) (e : Entry) (r : Reading) → in_front es (prefixed e r) ≡ in_front (es ++ (e ∷ [])) r
@@ -59,7 +54,7 @@ module _ (g : Heading) (log : List ℕ) where
   stood_push es e rest at here =
       let c = length (written es) in
       let d : drop (length (written (es ++ (e ∷ [])))) log ≡ rest =
-      ap (λ n. drop n log) (push_size es e) ∙ sym (drop-drop (length (bytes_of e)) c log) ∙ ap (drop (length (bytes_of e))) here ∙ drop_front e rest in
+      ap (λ n. drop n log) (push_size es e) ∙ sym (drop-drop (length (bytes_of e)) c log) ∙ ap (drop (length (bytes_of e))) here ∙ drop_at (bytes_of e) rest (length (bytes_of e)) refl in
       at ∙ ap (λ x. written es ++ x) here ∙ sym (append_assoc (written es) (bytes_of e) rest)
       ∙ ap (λ x. x ++ rest) (ap (λ x. written es ++ x) (sym (append-nil (bytes_of e))) ∙ sym (written_append es (e ∷ [])))
       ∙ ap (λ x. written (es ++ (e ∷ [])) ++ x) (sym d)
@@ -91,13 +86,13 @@ bad_ending xs last latest m n k w small true q₁ false q₂ h =
       | inl none ↦ absurd (omega arith)
       | inr some ↦ too_few_instructions (any_map (λ b. b.target ≡ last) (λ b. n < b.target) xs (λ b q. omega arith) some)
     ]
-bad_ending xs last latest m n k w small true q₁ true q₂ h = let z : ◌≡◌ {A = ℕ} 0 1 = cc in absurd (omega arith)
+bad_ending xs last latest m n k w small true q₁ true q₂ h = absurd cc
 
 module _ (g : Heading) (log : List ℕ) (four : g.cores ≤ 4) (octets : AllByRecursion (λ b. b < 256) log) where
   -- the bytes of a record that was read where the reader stands
   stands_here : (es : List Entry) (e : Entry) → entry_at g.core (length (written es)) (drop (length (written es)) log) ≡ Ok e →
       drop (length (written es)) log ≡ bytes_of e ++ drop (length (bytes_of e)) (drop (length (written es)) log)
-  stands_here es e q = written_back g.core (length (written es)) (drop (length (written es)) log) e (All-drop (λ b. b < 256) (length (written es)) log octets) q
+  stands_here es e q = written_back g.core (length (written es)) (drop (length (written es)) log) e (octets_drop (length (written es)) log octets) q
 
   module _ (f : ℕ) (xs : List LogArc) (last : ℕ) (latest : List ℕ) (m : ℕ) (w : Knows xs last latest m) (l : Lawful g xs) (at : Stood g log (front g xs)) where
     abbrev es : List Entry
@@ -138,7 +133,7 @@ module _ (g : Heading) (log : List ℕ) (four : g.cores ≤ 4) (octets : AllByRe
 
     on_end : (n k : ℕ) → entry_at g.core c (drop c log) ≡ Ok (end n k) → (b : Bool) → (eqb m k && leb last n) ≡ b → Here
     on_end n k q true t =
-        let small = end_small g.core c (drop c log) n k (All-drop (λ b. b < 256) c log octets) q in
+        let small = end_small g.core c (drop c log) n k (octets_drop c log octets) q in
         let p = and_parts (eqb m k) (leb last n) t in
         let number : k ≡ length xs = omega (arith, eqb-true m k p.0, w.number) in
         let low = leb-true last n p.1 in
@@ -160,7 +155,7 @@ module _ (g : Heading) (log : List ℕ) (four : g.cores ≤ 4) (octets : AllByRe
           },
         )
     on_end n k q false t =
-        let small = end_small g.core c (drop c log) n k (All-drop (λ b. b < 256) c log octets) q in
+        let small = end_small g.core c (drop c log) n k (octets_drop c log octets) q in
         let seen_is : look (behind g log es s) ≡ Err (broken 2 g.core c 5) =
         ap (judged g s c) q ∙ ap (λ b. passed (end n k) (cond b (Ok (After n)) (Err (broken 2 g.core c 5)))) t in
         refuse g log f es s (broken 2 g.core c 5) front_is at seen_is
@@ -194,10 +189,10 @@ module _ (g : Heading) (log : List ℕ) (four : g.cores ≤ 4) (octets : AllByRe
       refuse g log f [] Before d (inl refl) refl (ap (judged g Before 0) q) (unread g [] g.core 0 log d q)
   on_first f h (Ok (arc a)) q =
       refuse g log f [] Before (broken 2 g.core 0 3) (inl refl) refl (ap (judged g Before 0) q)
-      (refl, refl, no_head (arc a) _ refl (stands_here [] (arc a) q) (λ e. let z : ◌≡◌ {A = ℕ} 0 1 = cc in omega arith))
+      (refl, refl, no_head (arc a) _ refl (stands_here [] (arc a) q) (λ e. cc))
   on_first f h (Ok (end n k)) q =
       refuse g log f [] Before (broken 2 g.core 0 3) (inl refl) refl (ap (judged g Before 0) q)
-      (refl, refl, no_head (end n k) _ refl (stands_here [] (end n k) q) (λ e. let z : ◌≡◌ {A = ℕ} 0 1 = cc in omega arith))
+      (refl, refl, no_head (end n k) _ refl (stands_here [] (end n k) q) (λ e. cc))
   on_first f h (Ok (head k p n)) q = by_fields (eqb k g.core) refl (eqb p g.cores) refl (eqb n g.cells) refl
     where
       seen_is : (b : Bool) → (eqb k g.core && (eqb p g.cores && eqb n g.cells)) ≡ b →

@@ -1,7 +1,6 @@
 -- A log that is written by the rules is read as it was written, arc by arc, and held to the instructions of every core up to the first arc from beyond.
 use Rattle.std.proofs.Common.{◌≡◌, ℕ, zero, suc, ◌+◌, ◌/◌, ◌<◌, ◌≤◌, Bool, true, false, cond, eqb, ltb, leb, ◌⊎◌, List, [], ◌∷◌, ◌++◌, map, length, get_or, drop, set, Some, Ok, Err, Result, sym, refl, ap, ◌∙◌, subst, inl, inr, arith}
 use Rattle.std.specs.List.{AllByRecursion}
-use Rattle.std.proofs.ByRecursion.{All-drop}
 use Rattle.std.proofs.lemmas.List.{drop-drop, drop_at, append_assoc, append-nil, length-append, length_push}
 use Rattle.std.proofs.lemmas.Bool.{and_from, eq-eqb, le-leb, ltb-true, ltb-false}
 use Rattle.records.specs.declared.reading.State.{State}
@@ -12,7 +11,7 @@ use Rattle.records.specs.Format.{LogArc, Entry, head, arc, end, bytes_of, writte
 use Rattle.records.specs.Reading.{broken, entry_at, arc_stands, one_more, no_targets, passed, judged, held_at, View, moved}
 use Rattle.logs.specs.Lawful.{Any, Stands, Behind, Lawful, front, whole, Holds, Within, BadArc, no_such_core, own_core, no_source_count, no_target_count, target_falls, source_twice}
 use Rattle.logs.specs.Walk.{prefixed, stopped, walk, look, look_held, reading_from, holding_from, at_front}
-use Rattle.logs.proofs.Bytes.{read_back}
+use Rattle.logs.proofs.Bytes.{octets_drop, read_back}
 use Rattle.logs.proofs.Going.{walk_some, walk_fault}
 use Rattle.logs.proofs.Judging.{written_append, front_push, push_size}
 use Rattle.logs.proofs.Rules.{Knows, knows_none, knows_push, stands_follows, fails_breaks, lawful_at, never_both, all_push}
@@ -131,6 +130,11 @@ module _ (g : Heading) (log : List ℕ) (n k : ℕ) where
             subst (λ v. Held v before (a ∷ more)) (sym (ap (λ x. x.verdict) (walk_some (look_held counts) (at c s) f (arc a) p.0 (seen_is false q))))
             (held_on before a more _ (ltb-false (get_or counts a.source 0) a.count q) (again size'))
 
+-- a log has fewer arcs than bytes
+pub fewer_arcs : (arcs : List LogArc) (n k : ℕ) → length arcs < length (written (map arc arcs ++ (end n k ∷ [])))
+fewer_arcs [] n k = omega arith
+fewer_arcs (a ∷ more) n k = omega (arith, fewer_arcs more n k)
+
 -- the head, and then the path
 module _ (g : Heading) (log : List ℕ) (arcs : List LogArc) (n : ℕ) (four : g.cores ≤ 4) (few : length arcs ≤ 65535) (o : Holds g log arcs n) where
   abbrev hd : Entry
@@ -151,12 +155,8 @@ module _ (g : Heading) (log : List ℕ) (arcs : List LogArc) (n : ℕ) (four : g
   pub path : Path g log n (length arcs) (at g log n (length arcs) 6 (Among 0 no_targets 0)) arcs
   path = path_from g log n (length arcs) four few o.rest [] arcs 6 0 no_targets 0 knows_none o.lawful tt o.reached (omega arith) (ap (drop 6) starts)
 
-  long : (bs : List LogArc) → length bs < length (written (map arc bs ++ (end n (length arcs) ∷ [])))
-  long [] = omega arith
-  long (b ∷ bs) = omega (arith, long bs)
-
   pub size : length arcs < length log
-  size = omega (arith, ap length starts, length-append body o.rest, long arcs)
+  size = omega (arith, ap length starts, length-append body o.rest, fewer_arcs arcs n (length arcs))
 
   pub holds_read : reading_from (at_front g log) ≡ record { entries = whole g arcs n; verdict = Ok n }
   unfolding reading_from
@@ -179,6 +179,6 @@ holds_few g log arcs n octets o =
     let d : drop (length (written es)) log ≡ bytes_of e ++ o.rest =
     ap (drop (length (written es))) (o.bytes ∙ ap (λ x. x ++ o.rest) (written_append es (e ∷ [])) ∙ append_assoc (written es) (bytes_of e ++ []) o.rest)
     ∙ drop_at (written es) (bytes_of e ++ o.rest) (length (written es)) refl in
-    let h = subst (AllByRecursion (λ b. b < 256)) d (All-drop (λ b. b < 256) (length (written es)) log octets) in
+    let h = subst (AllByRecursion (λ b. b < 256)) d (octets_drop (length (written es)) log octets) in
     let high : length arcs / 256 < 256 = h.1.1.1.1.0 in
     omega arith

@@ -1,19 +1,19 @@
 -- The reader's state stands for the arcs read so far, and its test of the next arc decides whether that arc may follow them.
-use Rattle.std.proofs.Common.{◌≡◌, ℕ, zero, suc, ◌<◌, ◌≤◌, min, Bool, true, false, not, ◌&&◌, eqb, ltb, leb, ◌⊎◌, List, [], ◌∷◌, ◌++◌, length, get_or, set, sym, refl, ap, ◌∙◌, inl, inr, arith}
+use Rattle.std.proofs.Common.{◌≡◌, ℕ, ◌<◌, ◌≤◌, min, Bool, true, false, not, ◌&&◌, eqb, ltb, leb, ◌⊎◌, List, [], ◌∷◌, ◌++◌, length, get_or, set, replicate, sym, refl, ap, ◌∙◌, inl, inr, arith}
 use Rattle.std.specs.List.{AllByRecursion}
-use Rattle.std.proofs.lemmas.List.{get_or-set_same, get_or-set_other, length-set, length_push}
-use Rattle.std.proofs.lemmas.Bool.{and_parts, eqb-true, eqb-false, ltb-true, ltb-false, leb-true, leb-false, not-true, cases_eq}
+use Rattle.std.proofs.lemmas.List.{get_or-set_same, get_or-set_other, get_or-replicate, get_or_past, length-set, length_push, length-replicate}
+use Rattle.std.proofs.lemmas.Bool.{and_parts, eqb-true, eqb-false, ltb-true, ltb-false, leb-true, leb-false, not-true, cases_eq, cases_lt}
 use Rattle.records.specs.declared.settings.Heading.{Heading}
 use Rattle.records.specs.Format.{LogArc}
 use Rattle.records.specs.Reading.{arc_stands, one_more, no_targets}
 use Rattle.logs.specs.Lawful.{Any, Stands, Behind, Lawful, BadArc, no_such_core, own_core, no_source_count, no_target_count, target_falls, source_twice}
 
 -- all and any, of one arc more
-pub all_push : (P : LogArc → Type 0) (xs : List LogArc) (a : LogArc) → AllByRecursion P xs → P a → AllByRecursion P (xs ++ (a ∷ []))
+pub all_push : {X : Type 0} (P : X → Type 0) (xs : List X) (a : X) → AllByRecursion P xs → P a → AllByRecursion P (xs ++ (a ∷ []))
 all_push P [] a h p = (p, tt)
 all_push P (x ∷ xs) a h p = (h.0, all_push P xs a h.1 p)
 
-pub all_map : (P Q : LogArc → Type 0) (xs : List LogArc) → ((x : LogArc) → P x → Q x) → AllByRecursion P xs → AllByRecursion Q xs
+pub all_map : {X : Type 0} (P Q : X → Type 0) (xs : List X) → ((x : X) → P x → Q x) → AllByRecursion P xs → AllByRecursion Q xs
 all_map P Q [] f h = tt
 all_map P Q (x ∷ xs) f h = (f x h.0, all_map P Q xs f h.1)
 
@@ -63,15 +63,12 @@ pub record Knows (xs : List LogArc) (last : ℕ) (latest : List ℕ) (m : ℕ) :
   pub latest_is : (i : ℕ) → (get_or latest i 0 ≡ 0) ⊎ Any (λ b. (b.target ≡ get_or latest i 0) × (b.source ≡ i)) xs
   pub latest_top : AllByRecursion (λ b. b.target ≡ last → get_or latest b.source 0 ≡ last) xs
 
-none_there : (k : ℕ) → ◌≡◌ {A = ℕ} (get_or no_targets k 0) 0
-none_there zero = refl
-none_there (suc zero) = refl
-none_there (suc (suc zero)) = refl
-none_there (suc (suc (suc zero))) = refl
-none_there (suc (suc (suc (suc k)))) = refl
+-- a row of one value holds it everywhere, also behind its end
+pub all_alike : {X : Type 0} (n k : ℕ) (d : X) → get_or (replicate n d) k d ≡ d
+all_alike n k d = elim (cases_lt k n) [ inl h ↦ get_or-replicate n k d d h | inr h ↦ get_or_past (replicate n d) k d (omega (arith, length-replicate n d)) ]
 
 pub knows_none : Knows [] 0 no_targets 0
-knows_none = record { four = refl; number = refl; last_is = inl refl; below = tt; latest_is = λ i. inl (none_there i); latest_top = tt }
+knows_none = record { four = refl; number = refl; last_is = inl refl; below = tt; latest_is = λ i. inl (all_alike 4 i 0); latest_top = tt }
 
 module _ (xs : List LogArc) (last : ℕ) (latest : List ℕ) (m : ℕ) (k : Knows xs last latest m) (a : LogArc) where
   pub knows_push : a.source < 4 → last ≤ a.target → Knows (xs ++ (a ∷ [])) a.target (set latest a.source a.target) (one_more m)
@@ -157,4 +154,4 @@ module _ (xs : List LogArc) (last : ℕ) (latest : List ℕ) (m : ℕ) (k : Know
       by_tests true q₁ false q₂ true q₃ false q₄ b₅ q₅ b₆ q₆ h = no_target_count (let z = ltb-false 0 a.target q₄ in omega arith)
       by_tests true q₁ false q₂ true q₃ true q₄ false q₅ b₆ q₆ h = falls (let z = leb-false last a.target q₅ in omega arith)
       by_tests true q₁ false q₂ true q₃ true q₄ true q₅ true q₆ h = twice (ltb-true 0 a.target q₄) (eqb-true (get_or latest a.source 0) a.target q₆)
-      by_tests true q₁ false q₂ true q₃ true q₄ true q₅ false q₆ h = let z : ◌≡◌ {A = ℕ} 0 1 = cc in absurd (omega arith)
+      by_tests true q₁ false q₂ true q₃ true q₄ true q₅ false q₆ h = absurd cc

@@ -1,20 +1,22 @@
 -- What reading all logs says is what the logs are: accepted exactly if they hold, and else the first fault.
-use Rattle.std.proofs.Common.{◌≡◌, ℕ, zero, suc, ◌+◌, ◌*◌, ◌<◌, ◌≤◌, Bool, true, false, cond, leb, ◌⊎◌, List, [], ◌∷◌, ◌++◌, length, get_or, drop, set, Ok, Err, Result, sym, refl, ap, ◌∙◌, subst, inl, inr, arith}
+use Rattle.std.proofs.Common.{◌≡◌, ℕ, zero, suc, ◌+◌, ◌*◌, ◌<◌, ◌≤◌, Bool, true, false, cond, ◌⊎◌, List, [], ◌∷◌, ◌++◌, length, get_or, drop, set, Ok, Err, Result, sym, refl, ap, ◌∙◌, subst, inl, inr, Fits, w8, arith}
 use Rattle.std.specs.List.{AllByRecursion}
-use Rattle.std.proofs.lemmas.List.{get_or-set_same, get_or-set_other, length-set, ext_get_or}
-use Rattle.std.proofs.ByRecursion.{All-take, All-drop}
-use Rattle.std.proofs.lemmas.Bool.{cases_eq, cases_lt, and_parts, leb-true}
+use Rattle.std.proofs.lemmas.List.{get_or-set_same, get_or-set_other, length-set, length-append, length-take, ext_get_or}
+use Rattle.std.proofs.lemmas.Bool.{cases_eq, cases_lt}
+use Rattle.std.proofs.lemmas.Bool.Decides.{nat_tests}
 use Rattle.records.specs.declared.settings.Heading.{Heading}
 use Rattle.records.specs.declared.settings.Sizes.{Sizes}
 use Rattle.records.specs.Faults.{Fault, bad_setting, log_fault}
 use Rattle.records.specs.Format.{LogArc, Entry, written}
 use Rattle.records.specs.Reading.{broken}
 use Rattle.records.specs.Settings.{fits, log_of, heading_of}
-use Rattle.logs.specs.Lawful.{Holds, Within, LogHolds, Broken, Judged, Accepted, FirstFault, in_log, at_source, Exactly, front}
+use Rattle.logs.specs.Lawful.{Holds, Within, LogHolds, Broken, Judged, Accepted, FirstFault, in_log, at_source, Exactly, front, whole}
 use Rattle.logs.specs.Session.{read_log, hold_log, onward, gathered, tested, session, no_counts, outcome, read_session}
 use Rattle.logs.specs.Walk.{Reading}
+use Rattle.logs.proofs.Bytes.{octets_of, octets_take, octets_drop}
 use Rattle.logs.proofs.Judging.{read_judged}
-use Rattle.logs.proofs.Paths.{Held, holds_read, holds_held, holds_few}
+use Rattle.logs.proofs.Paths.{Held, holds_read, holds_held, holds_few, fewer_arcs}
+use Rattle.logs.proofs.Rules.{all_alike}
 
 -- the loop over the logs for layers 1 and 2: all are read, or one has the first fault
 module _ (store : List ℕ) (z : Sizes) where
@@ -106,24 +108,24 @@ chosen g log r (inl (arcs, k, q, o)) n e =
     subst (Holds g log arcs) same o
 chosen g log r (inr (before, f, q, o)) n e =
     let p : Err f ≡ Ok n = sym (ap (λ x. x.verdict) q) ∙ e in
-    let c : ◌≡◌ {A = ℕ} 0 1 = cc in absurd (omega arith)
+    absurd cc
 
 faulted : (g : Heading) (log : List ℕ) (r : Reading) → Judged g log r → (f : Fault) → r.verdict ≡ Err f → (before : List Entry) × Broken g log before f
 faulted g log r (inl (arcs, k, q, o)) f e =
     let p : Ok k ≡ Err f = sym (ap (λ x. x.verdict) q) ∙ e in
-    let c : ◌≡◌ {A = ℕ} 0 1 = cc in absurd (omega arith)
+    absurd cc
 faulted g log r (inr (before, d, q, o)) f e =
     let p : Err d ≡ Err f = sym (ap (λ x. x.verdict) q) ∙ e in
     let same : d ≡ f = cc in
     (before, subst (Broken g log before) same o)
 
 ok_err : {A : Type 0} (x : A) (f : Fault) → Ok x ≡ Err f → ⊥
-ok_err x f q = let c : ◌≡◌ {A = ℕ} 0 1 = cc in omega arith
+ok_err x f q = cc
 
 -- a session of bytes
 module _ (store : List ℕ) (z : Sizes) (octets : AllByRecursion (λ b. b < 256) store) (few : z.cores ≤ 4) where
   pub log_octets : (j : ℕ) → AllByRecursion (λ b. b < 256) (log_of store z j)
-  log_octets j = All-take (λ b. b < 256) z.log_bytes (drop (j * z.log_bytes) store) (All-drop (λ b. b < 256) (j * z.log_bytes) store octets)
+  log_octets j = octets_take z.log_bytes (drop (j * z.log_bytes) store) (octets_drop (j * z.log_bytes) store octets)
 
   judged_log : (j : ℕ) → Judged (heading_of z j) (log_of store z j) (read_log store z j)
   judged_log j = read_judged (heading_of z j) (log_of store z j) few (log_octets j)
@@ -159,13 +161,6 @@ module _ (store : List ℕ) (z : Sizes) (octets : AllByRecursion (λ b. b < 256)
       first_beyond a back [] w b = omega (arith, w.0)
       first_beyond a back (x ∷ fr) w b = first_beyond a back fr w.1 b
 
-  zeros : (j : ℕ) → ◌≡◌ {A = ℕ} (get_or no_counts j 0) 0
-  zeros zero = refl
-  zeros (suc zero) = refl
-  zeros (suc (suc zero)) = refl
-  zeros (suc (suc (suc zero))) = refl
-  zeros (suc (suc (suc (suc j)))) = refl
-
   -- two counts that the logs agree with are one
   one_count : (xs ys : List ℕ) → length xs ≡ 4 → length ys ≡ 4 → ((j : ℕ) → j < z.cores → (read_log store z j).verdict ≡ Ok (get_or xs j 0)) → ((j : ℕ) → j < z.cores → (read_log store z j).verdict ≡ Ok (get_or ys j 0)) →
       ((j : ℕ) → z.cores ≤ j → get_or xs j 0 ≡ 0) → ((j : ℕ) → z.cores ≤ j → get_or ys j 0 ≡ 0) → xs ≡ ys
@@ -185,7 +180,7 @@ module _ (store : List ℕ) (z : Sizes) (octets : AllByRecursion (λ b. b < 256)
   -- layers 1 and 2 passed, with these counts
   module _ (found : List ℕ) (o : AllRead store z 0 no_counts found) where
     others : (j : ℕ) → z.cores ≤ j → get_or found j 0 ≡ 0
-    others j h = o.others j h ∙ zeros j
+    others j h = o.others j h ∙ all_alike 4 j 0
 
     numbers : (j : ℕ) → j < z.cores → (read_log store z j).verdict ≡ Ok (get_or found j 0)
     numbers j h = o.numbers j (omega arith) h
@@ -259,7 +254,13 @@ first_differs : (x y : ℕ) (xs ys : List ℕ) → x ∷ xs ≡ y ∷ ys → (x 
 first_differs x y xs ys q n = let p : x ≡ y = cc in n p
 
 pub few_cores : (bytes : ℕ) (z : Sizes) → fits bytes z ≡ true → z.cores ≤ 4
-few_cores bytes z q = leb-true z.cores 4 (and_parts (leb z.cores 4) _ (and_parts (leb 1 z.cores) _ q).1).0
+few_cores bytes z q = grind (arith, nat_tests)
+
+-- a log in a store that the sizes fit has no more arcs than its end record can say
+pub few_arcs : (store : List ℕ) (z : Sizes) → fits (length store) z ≡ true → (j : ℕ) (arcs : List LogArc) (n : ℕ) → Holds (heading_of z j) (log_of store z j) arcs n → length arcs ≤ 65535
+few_arcs store z t j arcs n o =
+    let short : z.log_bytes ≤ 16384 = grind (arith, nat_tests) in
+    omega (arith, length-take z.log_bytes (drop (j * z.log_bytes) store), ap length o.bytes, length-append (written (whole (heading_of z j) arcs n)) o.rest, fewer_arcs arcs n (length arcs))
 
 module _ (store : List ℕ) (z : Sizes) (octets : AllByRecursion (λ b. b < 256) store) where
   when_fits : (few : z.cores ≤ 4) (r : Result (List ℕ) Fault) → Sessioned store z octets few r → fits (length store) z ≡ true → Exactly store z (outcome r)
@@ -268,20 +269,20 @@ module _ (store : List ℕ) (z : Sizes) (octets : AllByRecursion (λ b. b < 256)
     accepted = λ xs _ w. ap outcome q ∙ ap (λ c. 0 ∷ c) (sym (one xs w));
     faulty = λ f e. absurd (first_differs 0 9 counts _ (sym (ap outcome q) ∙ e) (λ n. omega arith));
     unfit = λ e. absurd (first_differs 0 8 counts [] (sym (ap outcome q) ∙ e) (λ n. omega arith));
-    refused = λ n. let b : true ≡ false = sym t ∙ n in let c : ◌≡◌ {A = ℕ} 0 1 = cc in absurd (omega arith);
+    refused = λ n. let b : true ≡ false = sym t ∙ n in absurd cc;
   }
   when_fits few r (inr (f, q, first, never)) t = record {
     accepts = λ xs e. absurd (first_differs 9 0 _ xs (sym (ap outcome q) ∙ e) (λ n. omega arith));
     accepted = λ xs _ w. absurd (never xs w);
     faulty = λ d e. subst (FirstFault store z) (same_fault f d (sym (ap outcome q) ∙ e)) first;
     unfit = λ e. absurd (first_differs 9 8 _ [] (sym (ap outcome q) ∙ e) (λ n. omega arith));
-    refused = λ n. let b : true ≡ false = sym t ∙ n in let c : ◌≡◌ {A = ℕ} 0 1 = cc in absurd (omega arith);
+    refused = λ n. let b : true ≡ false = sym t ∙ n in absurd cc;
   }
 
   unfitting : fits (length store) z ≡ false → Exactly store z bad_setting
   unfitting t = record {
     accepts = λ xs e. absurd (first_differs 8 0 [] xs e (λ n. omega arith));
-    accepted = λ xs n w. let b : true ≡ false = sym n ∙ t in let c : ◌≡◌ {A = ℕ} 0 1 = cc in absurd (omega arith);
+    accepted = λ xs n w. let b : true ≡ false = sym n ∙ t in absurd cc;
     faulty = λ f e. absurd (first_differs 8 9 [] _ e (λ n. omega arith));
     unfit = λ _. t;
     refused = λ _. refl;
@@ -293,3 +294,11 @@ module _ (store : List ℕ) (z : Sizes) (octets : AllByRecursion (λ b. b < 256)
       go : (b : Bool) → fits (length store) z ≡ b → Exactly store z (cond b (outcome (session store z)) bad_setting)
       go true t = let few = few_cores (length store) z t in when_fits few (session store z) (session_judged store z octets few) t
       go false t = unfitting t
+
+-- the items of a slice of bytes
+pub bytes_octets : (store : List ℕ) → ((i : ℕ) → Fits w8 (get_or store i 0)) → AllByRecursion (λ b. b < 256) store
+bytes_octets store fits = octets_of store (λ i _. omega (arith, fits i))
+
+-- an answer that is the definition's
+pub says_exactly : (store : List ℕ) (z : Sizes) (says : List ℕ) → ((i : ℕ) → Fits w8 (get_or store i 0)) → says ≡ read_session store z → Exactly store z says
+says_exactly store z says fits q = subst (Exactly store z) (sym q) (read_exactly store z (bytes_octets store fits))

@@ -1,5 +1,5 @@
 -- Logs written out from what was read have their old bytes up to their ends, and nothing else is touched.
-use Rattle.std.proofs.Common.{◌≡◌, ℕ, zero, suc, ◌+◌, ◌-◌, ◌*◌, ◌<◌, ◌≤◌, Bool, true, false, cond, ◌&&◌, ltb, leb, List, [], ◌∷◌, ◌++◌, length, get_or, take, drop, Ok, Err, Result, sym, refl, ap, ◌∙◌, subst, inl, inr, mul-le-mul_right, suc-mul, zero-add, arith}
+use Rattle.std.proofs.Common.{◌≡◌, ℕ, zero, suc, ◌+◌, ◌-◌, ◌*◌, ◌<◌, ◌≤◌, Bool, true, false, cond, ◌&&◌, ltb, leb, List, [], ◌∷◌, ◌++◌, length, get_or, take, drop, Ok, Err, Result, sym, refl, ap, ◌∙◌, subst, inl, inr, mul-le-mul_right, suc-mul, Fits, w8, zero-add, arith}
 use Rattle.std.proofs.lemmas.List.{length-append, length-drop, length-take, take_at}
 use Rattle.std.proofs.lemmas.Bool.{and_from, and_parts, lt-ltb, le-leb, leb-true, cases_eq, cases_lt}
 use Rattle.std.specs.List.{AllByRecursion}
@@ -12,7 +12,7 @@ use Rattle.records.proofs.Splices.{splice_none, splice_splice, length_splice, ta
 use Rattle.logs.specs.Lawful.{Accepted, whole}
 use Rattle.logs.specs.Session.{read_log, session, outcome}
 use Rattle.logs.proofs.Paths.{holds_read, holds_few}
-use Rattle.logs.proofs.Sessions.{log_octets, few_cores, read_exactly}
+use Rattle.logs.proofs.Sessions.{log_octets, few_cores, bytes_octets, read_exactly}
 use Rattle.logs.specs.WriteOut.{copied, all_copied, copying, write_session, Restored}
 
 -- the loop over the cores
@@ -34,8 +34,8 @@ module _ (store : List ℕ) (z : Sizes) (j : ℕ) (out : List ℕ) where
   copied_all h = let e : z.cores - j ≡ 0 = omega arith in ap (λ k. all_copied store z k j out) e ∙ copied_none
 
 -- a log ends before the next begins
-rows : (i j L : ℕ) → i < j → i * L + L ≤ j * L
-rows i j L h = let m : suc i * L ≤ j * L = mul-le-mul_right L h in rw (← suc-mul i L) m
+pub log_inside : (i j L : ℕ) → i < j → i * L + L ≤ j * L
+log_inside i j L h = let m : suc i * L ≤ j * L = mul-le-mul_right L h in rw (← suc-mul i L) m
 
 -- one record after another is all of them at once
 module _ (z : Sizes) (j : ℕ) where
@@ -75,14 +75,14 @@ module _ (z : Sizes) (j : ℕ) (bs out : List ℕ) (room : length bs ≤ z.log_b
   other_log : (i : ℕ) → (i ≡ j → ⊥) → log_of (splice (j * L + 0) bs out) z i ≡ log_of out z i
   other_log i ne = elim (cases_lt i j) [
     | inl h ↦
-        (let below = rows i j L h in
+        (let below = log_inside i j L h in
         let far = j * L - i * L in
         let there : j * L + 0 ≡ i * L + far = omega arith in
         let d = length-drop (i * L) out in
         ap (λ n. take L (drop (i * L) (splice n bs out))) there
         ∙ ap (take L) (drop_within (i * L) far bs out (omega arith))
         ∙ take_front L far bs (drop (i * L) out) (omega arith) (omega arith))
-    | inr h ↦ (let above = rows j i L (omega arith) in ap (take L) (drop_behind (i * L) (j * L + 0) bs out (omega arith) (omega arith)))
+    | inr h ↦ (let above = log_inside j i L (omega arith) in ap (take L) (drop_behind (i * L) (j * L + 0) bs out (omega arith) (omega arith)))
   ]
 
 -- an accepted session, log by log
@@ -113,7 +113,7 @@ module _ (store : List ℕ) (z : Sizes) (octets : AllByRecursion (λ b. b < 256)
   put (suc k) j out e f room =
       let L = z.log_bytes in
       let h : j < z.cores = omega arith in
-      let inside : j * L + L ≤ length out = omega (arith, rows j z.cores L h) in
+      let inside : j * L + L ≤ length out = omega (arith, log_inside j z.cores L h) in
       let fit = bytes_fit j h in
       let mid = splice (j * L + 0) (bytes j) out in
       let size = length_splice (j * L + 0) (bytes j) out (omega arith) in
@@ -128,7 +128,7 @@ module _ (store : List ℕ) (z : Sizes) (octets : AllByRecursion (λ b. b < 256)
               (p.earlier j (omega arith) ∙ own_log z j (bytes j) out fit inside)
           | inr ne ↦ p.here i (omega arith) u ∙ ap (λ x. bytes i ++ drop (length (bytes i)) x) (other_log z j (bytes j) out fit inside i ne)
         ];
-        surplus = p.surplus ∙ drop_behind (z.cores * L) (j * L + 0) (bytes j) out (omega (arith, rows j z.cores L h)) (omega arith);
+        surplus = p.surplus ∙ drop_behind (z.cores * L) (j * L + 0) (bytes j) out (omega (arith, log_inside j z.cores L h)) (omega arith);
       })
 
   pub restores : (out : List ℕ) → fits (length out) z ≡ true → z.cores * z.log_bytes ≤ length out → Restored store z out (all_copied store z z.cores 0 out)
@@ -154,7 +154,7 @@ room_in bytes z q =
     let p₆ = (and_parts (leb z.log_bytes 16384) _ p₅).1 in
     leb-true (z.cores * z.log_bytes) bytes p₆
 
-pub write_restores : (store : List ℕ) (z : Sizes) (out : List ℕ) → AllByRecursion (λ b. b < 256) store → (write_session store z out).says ≡ 0 ∷ [] → Restored store z out (write_session store z out).store
+write_restores : (store : List ℕ) (z : Sizes) (out : List ℕ) → AllByRecursion (λ b. b < 256) store → (write_session store z out).says ≡ 0 ∷ [] → Restored store z out (write_session store z out).store
 write_restores store z out octets = go (fits (length out) z) refl (fits (length store) z) refl (session store z) refl
   where
     go : (b₁ : Bool) → fits (length out) z ≡ b₁ → (b₂ : Bool) → fits (length store) z ≡ b₂ → (r : Result (List ℕ) Fault) → session store z ≡ r →
@@ -163,6 +163,12 @@ write_restores store z out octets = go (fits (length out) z) refl (fits (length 
     go true f true t (Ok counts) q e =
         restores store z octets (few_cores (length store) z t) counts
         ((read_exactly store z octets).accepts counts (ap (λ b. cond b (outcome (session store z)) bad_setting) t ∙ ap outcome q)) out f (room_in (length out) z f)
-    go true f true t (Err d) q e = absurd (let c : ◌≡◌ {A = ℕ} 9 0 = cc in omega arith)
-    go true f false t r q e = absurd (let c : ◌≡◌ {A = ℕ} 8 0 = cc in omega arith)
-    go false f b₂ t r q e = absurd (let c : ◌≡◌ {A = ℕ} 8 0 = cc in omega arith)
+    go true f true t (Err d) q e = absurd cc
+    go true f false t r q e = absurd cc
+    go false f b₂ t r q e = absurd cc
+
+-- an outcome that is the definition's
+pub says_restored : (store : List ℕ) (z : Sizes) (out after says : List ℕ) → ((i : ℕ) → Fits w8 (get_or store i 0)) →
+    record { says = says; store = after } ≡ write_session store z out → says ≡ 0 ∷ [] → Restored store z out after
+says_restored store z out after says fits q e =
+    subst (Restored store z out) (sym (ap (λ w. w.store) q)) (write_restores store z out (bytes_octets store fits) (sym (ap (λ w. w.says) q) ∙ e))

@@ -1,11 +1,10 @@
 -- Reading a log record by record.
-use Rattle.std.specs.Prelude.{ℕ, zero, suc, List, [], ◌∷◌, length, Some, None, Ok, Err, Result}
-use Rattle.records.specs.declared.faults.RecordFault.{RecordFault}
+use Rattle.std.specs.Prelude.{ℕ, zero, suc, List, [], ◌∷◌, length, Some, None, Ok, Err, Option, Result}
 use Rattle.records.specs.declared.faults.SessionFault.{SessionFault}
 use Rattle.records.specs.declared.reading.State.{State}
 use Rattle.records.specs.declared.reading.State.TheVariants.{Before}
 use Rattle.records.specs.declared.settings.Heading.{Heading}
-use Rattle.records.specs.Faults.{Fault, record_fault, session_fault}
+use Rattle.records.specs.Faults.{Fault, session_fault}
 use Rattle.records.specs.Format.{Entry}
 use Rattle.records.specs.Reading.{Sight, View, moved, seen, held, instructions_in}
 
@@ -44,15 +43,20 @@ reading_from v = walk look (suc (length v.log)) v
 unfoldable pub holding_from : List ℕ → View → Reading
 holding_from counts v = walk (look_held counts) (suc (length v.log)) v
 
+-- held where there are instructions to hold to
+abbrev pub look_by : Option (List ℕ) → View → Sight
+look_by None v = look v
+look_by (Some counts) v = look_held counts v
+
+abbrev pub reading_by : Option (List ℕ) → View → Reading
+reading_by None v = reading_from v
+reading_by (Some counts) v = holding_from counts v
+
 -- a reader before the head of a log
 abbrev pub at_front : Heading → List ℕ → View
 at_front g log = record { heading = g; log = log; cursor = 0; state = Before }
 
 -- what the calls answer, by the meaning of the code's faults
-abbrev pub counted_as : Result ℕ RecordFault → Result ℕ Fault
-counted_as (Ok n) = Ok n
-counted_as (Err e) = Err (record_fault e)
-
 abbrev pub held_as : Result ℕ SessionFault → Result ℕ Fault
 held_as (Ok n) = Ok n
 held_as (Err e) = Err (session_fault e)

@@ -1,52 +1,48 @@
-ghost use Rattle.std.specs.Prelude.{◌≡◌, true, [], ◌∷◌, length};
+ghost use Rattle.std.specs.Prelude.{◌≡◌, [], ◌∷◌};
 ghost use Rattle.records.specs.Reading.{view};
-ghost use Rattle.records.specs.Settings.{fits};
 ghost use Rattle.logs.specs.Session.{done_as};
 ghost use Rattle.logs.specs.Walk.{reading_from};
 ghost use Rattle.logs.specs.WriteOut.{copied, all_copied, write_session, Restored};
 
-use crate::session::read_logs;
-use records::faults::{RecordFault, Refusal};
+use crate::session::read_all;
+use records::faults::Refusal;
 use records::reading::Reader;
 use records::settings::Sizes;
+use records::store::Logs;
 use records::writing::write_record;
 
 // Writes each record that is read to its place in `out`, up to the end or the first fault.
-fn copy_records(from: Reader, sizes: Sizes, core: usize, out: &mut [u8]) -> Result<(), RecordFault>
+fn copy_records(from: Reader, sizes: Sizes, core: usize, out: &mut [u8])
     ensures { out.new ≡ copied sizes core from.entry.cursor (reading_from (view from.entry)).entries out.old }
 {
     let mut reader = from;
     let mut offset = reader.offset();
-    while let Some(record) = reader.next_record()? {
+    while let Ok(Some(record)) = reader.next_record() {
         let _ = write_record(out, sizes, core, offset, record);
         offset = reader.offset();
     }
-    Ok(())
 }
 
 // Writes the records of every log.
-fn copy_logs(store: &[u8], sizes: Sizes, out: &mut [u8]) -> Result<(), Refusal>
-    requires { fits (length store.now) sizes ≡ true }
+fn copy_logs(logs: Logs, out: &mut [u8]) -> Result<(), Refusal>
     ensures answer { done_as result ≡ 0 ∷ [] }
-    ensures bytes { out.new ≡ all_copied store.now sizes sizes.cores 0 out.old }
+    ensures bytes { out.new ≡ all_copied logs.entry.store.now logs.entry.sizes logs.entry.sizes.cores 0 out.old }
 {
-    for core in 0..sizes.cores {
-        let reader = Reader::new(store, sizes, core)?;
-        // the log was read before, so no fault comes
-        let _ = copy_records(reader, sizes, core, out);
+    for core in 0..logs.count() {
+        copy_records(logs.reader(core)?, logs.sizes, core, out);
     }
     Ok(())
 }
 
 // The output's room, then all logs, then every record to its place.
-fn write_session(store: &[u8], sizes: Sizes, out: &mut [u8]) -> Result<(), Refusal>
-    ensures { record { says = done_as result; store = out.new } ≡ write_session store.now sizes out.old }
+fn write_all(logs: Logs, out: &mut [u8]) -> Result<(), Refusal>
+    ensures { record { says = done_as result; store = out.new } ≡ write_session logs.entry.store.now logs.entry.sizes out.old }
 {
-    if !sizes.fit(out.len()) {
+    if !logs.sizes.fit(out.len()) {
         return Err(Refusal::BadSetting);
     }
-    read_logs(store, sizes)?;
-    copy_logs(store, sizes, out)
+    read_all(logs)?;
+    copy_logs(logs, out)
 }
 
 // Reads all logs and writes every record, encoded from what was read, to the same place in `out`.
@@ -55,5 +51,5 @@ pub fn write_logs(store: &[u8], sizes: Sizes, out: &mut [u8]) -> Result<(), Refu
     ensures outcome { record { says = done_as result; store = out.new } ≡ write_session store.now sizes out.old }
     ensures restored { done_as result ≡ 0 ∷ [] → Restored store.now sizes out.old out.new }
 {
-    write_session(store, sizes, out)
+    write_all(Logs::new(store, sizes)?, out)
 }

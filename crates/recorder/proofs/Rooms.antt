@@ -1,7 +1,7 @@
 -- What fits where: logs in the store, and records in their log.
-use Rattle.std.proofs.Common.{◌≡◌, ℕ, suc, ◌+◌, ◌-◌, ◌*◌, ◌<◌, ◌≤◌, Bool, true, false, cond, eqb, List, [], ◌∷◌, map, length, Some, None, Option, refl, ap, ◌∙◌, mul-le-mul_right, add-mul, arith}
+use Rattle.std.proofs.Common.{◌≡◌, ℕ, suc, ◌+◌, ◌-◌, ◌*◌, ◌<◌, ◌≤◌, Bool, true, false, cond, eqb, List, [], ◌∷◌, map, length, Some, None, Option, refl, ap, ◌∙◌, arith}
 use Rattle.std.proofs.lemmas.List.{length-append}
-use Rattle.std.proofs.lemmas.Bool.{eqb-false, ltb-false}
+use Rattle.std.proofs.lemmas.Bool.{ltb-false}
 use Rattle.std.proofs.lemmas.Bool.Decides.{nat_tests}
 use Rattle.accesses.proofs.Few.{candidates_few}
 use Rattle.accesses.specs.Histories.{present}
@@ -10,6 +10,7 @@ use Rattle.accesses.specs.declared.access.Candidate.{Candidate}
 use Rattle.accesses.specs.declared.history.CellHistory.{CellHistory}
 use Rattle.cores.specs.Acting.{within}
 use Rattle.cores.specs.declared.interface.Request.{Request}
+pub use Rattle.logs.proofs.WritingOut.{log_inside}
 use Rattle.records.proofs.Splices.{splice_splice}
 use Rattle.records.specs.Format.{head, arc, end, bytes_of, written, splice}
 use Rattle.records.specs.Settings.{fits}
@@ -33,14 +34,6 @@ pub fitting : (bytes : ℕ) (z : Sizes) → fits bytes z ≡ true → Fitting by
 fitting bytes z e =
     record { few = grind (arith, nat_tests); cells = grind (arith, nat_tests); long = grind (arith, nat_tests); short = grind (arith, nat_tests); all = grind (arith, nat_tests) }
 
--- the log of core j lies inside the store
-pub log_inside : (j P L : ℕ) → j < P → j * L + L ≤ P * L
-log_inside j P L h =
-    let a : j + 1 ≤ P = omega arith in
-    let b : (j + 1) * L ≤ P * L = mul-le-mul_right L a in
-    let c : (j + 1) * L ≡ j * L + 1 * L = add-mul j 1 L in
-    omega (arith, b, c)
-
 pub log_room : (bytes : ℕ) (z : Sizes) (j : ℕ) → fits bytes z ≡ true → j < z.cores → j * z.log_bytes + z.log_bytes ≤ bytes
 log_room bytes z j e h = let f = fitting bytes z e in omega (arith, log_inside j z.cores z.log_bytes h, f.all)
 
@@ -58,19 +51,16 @@ arcs_size by n (x ∷ xs) (m ∷ ms) =
     let v = ap length (arcs_append F A) ∙ length-append (written (map arc F)) (written (map arc A)) in
     (omega (arith, p.0, q.0, u, v), omega (arith, p.1, q.1, u))
 
-passed : (a b c d : Bool) → ◌≡◌ {A = ℕ} (cond a 2 (cond b 3 (cond c (cond d 5 0) 4))) 0 → (b ≡ false) × (d ≡ false)
+passed : (a b c d : Bool) → ◌≡◌ {A = ℕ} (cond a 2 (cond b 3 (cond c (cond d 5 0) 4))) 0 → d ≡ false
 passed true b c d e = absurd (omega arith)
 passed false true c d e = absurd (omega arith)
 passed false false false d e = absurd (omega arith)
 passed false false true true e = absurd (omega arith)
-passed false false true false e = (refl, refl)
+passed false false true false e = refl
 
 module _ (b : Book) (j : ℕ) (request : Request) (e : barred b j request ≡ 0) where
-  both : (eqb (log_in b j).instructions 65535 ≡ false) × (full b j (touched request) ≡ false)
-  both = passed (halts request) (eqb (log_in b j).instructions 65535) (within request b.sizes.cells) (full b j (touched request)) e
-
-  pub not_spent : (log_in b j).instructions ≡ 65535 → ⊥
-  not_spent = eqb-false (log_in b j).instructions 65535 both.0
+  not_full : full b j (touched request) ≡ false
+  not_full = passed (halts request) (eqb (log_in b j).instructions 65535) (within request b.sizes.cells) (full b j (touched request)) e
 
   -- so many arcs fit as there are candidates, and the end record behind them
   pub turn_fits : (history : List CellHistory) (bytes : ℕ) → fits bytes b.sizes ≡ true → j < b.sizes.cores →
@@ -79,7 +69,7 @@ module _ (b : Book) (j : ℕ) (request : Request) (e : barred b j request ≡ 0)
       ((log_in b j).end + 7 * k + 6 ≤ b.sizes.log_bytes) × ((log_in b j).arcs + 3 ≤ 65535)
   turn_fits history bytes f here behind inside k h =
       let z = fitting bytes b.sizes f in
-      let room = go (touched request) both.1 in
+      let room = go (touched request) not_full in
       (omega (arith, room, h), omega (arith, z.short))
     where
       go : (o : Option Touch) → full b j o ≡ false →
@@ -91,15 +81,16 @@ module _ (b : Book) (j : ℕ) (request : Request) (e : barred b j request ≡ 0)
           let m = candidates_few b.sizes.cores history t.cell j t.kind z.few here in
           omega (arith, g, m)
 
--- a head, and an end behind it
-pub head_is : (z : Sizes) (core offset : ℕ) (store mid new : List ℕ) → core * z.log_bytes ≤ length store → offset ≡ 6 →
+-- a head, and an end behind it of an access with no count
+pub head_is : (z z' : Sizes) (core offset arcs : ℕ) (by : Access) (store mid new : List ℕ) → core * z.log_bytes ≤ length store →
+    z' ≡ z → by ≡ record { core = core; count = 0; position = 0 } → offset ≡ 6 → arcs ≡ 0 →
     mid ≡ splice (core * z.log_bytes + 0) (bytes_of (head core z.cores z.cells)) store →
-    new ≡ splice (core * z.log_bytes + offset) (bytes_of (end 0 0)) mid → new ≡ headed z core store
-head_is z core offset store mid new room place p q =
+    new ≡ splice (by.core * z'.log_bytes + offset) (bytes_of (end by.count arcs)) mid → new ≡ headed z core store
+head_is z z' core offset arcs by store mid new room ez eb eo ea p q =
     let base = core * z.log_bytes in
     let front : base + 0 ≡ base = omega arith in
     q
-    ∙ ap (λ k. splice (base + k) (bytes_of (end 0 0)) mid) place
+    ∙ (λ i. splice ((eb i).core * (ez i).log_bytes + eo i) (bytes_of (end (eb i).count (ea i))) mid)
     ∙ ap (splice (base + 6) (bytes_of (end 0 0))) (p ∙ ap (λ k. splice k (bytes_of (head core z.cores z.cells)) store) front)
     ∙ splice_splice base (bytes_of (head core z.cores z.cells)) (bytes_of (end 0 0)) store room
 

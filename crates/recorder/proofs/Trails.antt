@@ -1,6 +1,6 @@
 -- One candidate after another: the numbers, the arcs and the bytes that judging them leaves.
-use Rattle.std.proofs.Common.{◌≡◌, ℕ, ◌+◌, ◌*◌, ◌<◌, ◌≤◌, Bool, true, false, cond, List, [], ◌∷◌, ◌++◌, map, length, get_or, take, Some, None, MatchBool, Option, sym, refl, ap, ◌∙◌, subst, arith}
-use Rattle.std.proofs.lemmas.List.{append-nil, append_assoc, length-append, map-append, take_more, take_all}
+use Rattle.std.proofs.Common.{◌≡◌, ℕ, ◌+◌, ◌*◌, ◌<◌, ◌≤◌, Bool, true, false, cond, List, [], ◌∷◌, ◌++◌, map, length, get_or, take, Some, None, Option, sym, refl, ap, ◌∙◌, subst, arith}
+use Rattle.std.proofs.lemmas.List.{append-nil, append_assoc, length-append, map-append, take_more}
 use Rattle.accesses.specs.Histories.{one}
 use Rattle.accesses.specs.declared.access.Access.{Access}
 use Rattle.accesses.specs.declared.access.Candidate.{Candidate}
@@ -8,14 +8,9 @@ use Rattle.logs.proofs.Judging.{written_append}
 use Rattle.records.proofs.Splices.{splice_none, splice_splice}
 use Rattle.records.specs.Format.{LogArc, arc, written, splice}
 use Rattle.records.specs.declared.settings.Sizes.{Sizes}
-use Rattle.reducers.specs.Calls.{Does}
 use Rattle.reducers.specs.Numbers.{Numbers}
-use Rattle.recorder.specs.Judged.{known?, take_of, Steps, Judged, none, then, fresh, arcs_to, last_of, moved, Logged}
+use Rattle.recorder.specs.Judged.{known?, Steps, Judged, none, then, fresh, arcs_to, last_of, moved, Logged}
 use Rattle.recorder.specs.declared.arcs.Tail.{Tail}
-
-when_true : (b : Bool) (P Q : Type 0) → b ≡ true → P → MatchBool b P Q
-when_true true P Q e p = p
-when_true false P Q e p = absurd (grind arith)
 
 -- at most one arc, of seven bytes
 pub fresh_few : (by : Access) (n : Numbers) (o : Option Candidate) →
@@ -95,35 +90,14 @@ module _ (meets : Numbers → Numbers → Type 0) (z : Sizes) (c : ℕ) (by : Ac
         tail = tail' ∙ ap (λ (q : Tail). moved q (fresh by m x)) f.tail ∙ moved_moved t arcs (fresh by m x) ∙ ap (moved t) (sym all);
       }
 
-  pub logged_more : (n m k : Numbers) (xs : List (Option Candidate)) (i : ℕ) (d : Option Candidate) (t u v : Tail) (s1 s2 s3 : List ℕ) → i < length xs →
-      base + t.offset ≤ length s1 → Logged meets z c by n (take i xs) m t s1 u s2 → Steps meets c by.core m (get_or xs i d) k →
-      s3 ≡ splice (base + u.offset) (written (map arc (fresh by m (get_or xs i d)))) s2 → v ≡ moved u (fresh by m (get_or xs i d)) →
+  -- the sizes and the access may be given as what equals them
+  pub logged_more : (n m k : Numbers) (xs : List (Option Candidate)) (i : ℕ) (d : Option Candidate) (t u v : Tail) (s1 s2 s3 : List ℕ) (z' : Sizes) (by' : Access) →
+      i < length xs → base + t.offset ≤ length s1 → Logged meets z c by n (take i xs) m t s1 u s2 → z' ≡ z → by' ≡ by → Steps meets c by'.core m (get_or xs i d) k →
+      s3 ≡ splice (by'.core * z'.log_bytes + u.offset) (written (map arc (fresh by' m (get_or xs i d)))) s2 → v ≡ moved u (fresh by' m (get_or xs i d)) →
       Logged meets z c by n (take (i + 1) xs) k t s1 v s3
-  logged_more n m k xs i d t u v s1 s2 s3 within room f s bytes' tail' =
-      subst (λ zs. Logged meets z c by n zs k t s1 v s3) (sym (take_more xs i d within)) (logged_push n m k (take i xs) (get_or xs i d) t u v s1 s2 s3 room f s bytes' tail')
-
-  pub logged_all : (n k : Numbers) (xs : List (Option Candidate)) (i : ℕ) (t v : Tail) (s1 s3 : List ℕ) → length xs ≤ i →
-      Logged meets z c by n (take i xs) k t s1 v s3 → Logged meets z c by n xs k t s1 v s3
-  logged_all n k xs i t v s1 s3 past f = subst (λ zs. Logged meets z c by n zs k t s1 v s3) (take_all i xs past) f
-
--- a candidate that is none, and one that is known
-module _ (meets : Numbers → Numbers → Type 0) (c j : ℕ) (n : Numbers) where
-  pub steps_none : (o : Option Candidate) → o ≡ None → Steps meets c j n o n
-  steps_none o e = subst (λ x. Steps meets c j n x n) (sym e) refl
-
-  pub steps_known : (o : Option Candidate) (x : Candidate) → o ≡ Some x → known? j n x ≡ true → Steps meets c j n o n
-  steps_known o x e h = subst (λ y. Steps meets c j n y n) (sym e) (when_true (known? j n x) (n ≡ n) (Does meets n (take_of c j x) n) h refl)
-
-pub fresh_none : (by : Access) (n : Numbers) (o : Option Candidate) → o ≡ None → fresh by n o ≡ []
-fresh_none by n o e = ap (fresh by n) e
-
-pub fresh_known : (by : Access) (n : Numbers) (o : Option Candidate) (x : Candidate) → o ≡ Some x → known? by.core n x ≡ true → fresh by n o ≡ []
-fresh_known by n o x e h =
-    ap (fresh by n) e ∙ ap (λ v. cond v [] (record { source = x.source.core; count = x.source.count; target = by.count } ∷ [])) h
-
--- what puts no arc leaves bytes and tail
-pub nothing_put : (at : ℕ) (store : List ℕ) (arcs : List LogArc) → arcs ≡ [] → store ≡ splice at (written (map arc arcs)) store
-nothing_put at store arcs e = sym (splice_none at store) ∙ ap (λ q. splice at (written (map arc q)) store) (sym e)
-
-pub nothing_moved : (t : Tail) (arcs : List LogArc) → arcs ≡ [] → t ≡ moved t arcs
-nothing_moved t arcs e = moved_none t ∙ ap (moved t) (sym e)
+  logged_more n m k xs i d t u v s1 s2 s3 z' by' within room f ez eb s bytes' tail' =
+      let x = get_or xs i d in
+      let step = subst (λ (b : Access). Steps meets c b.core m x k) eb s in
+      let bytes = bytes' ∙ (λ i. splice ((eb i).core * (ez i).log_bytes + u.offset) (written (map arc (fresh (eb i) m x))) s2) in
+      let tail = tail' ∙ ap (λ (b : Access). moved u (fresh b m x)) eb in
+      subst (λ zs. Logged meets z c by n zs k t s1 v s3) (sym (take_more xs i d within)) (logged_push n m k (take i xs) x t u v s1 s2 s3 room f step bytes tail)

@@ -1,21 +1,18 @@
 -- The ways of a turn: what each of them leaves is the outcome that is defined.
-use Rattle.std.proofs.Common.{◌≡◌, ℕ, ◌+◌, ◌-◌, ◌<◌, ◌≤◌, Bool, true, false, cond, eqb, ltb, List, [], ◌∷◌, map, length, get_or, take, set, Some, None, sym, refl, ap, ◌∙◌, subst, arith}
+use Rattle.std.proofs.Common.{◌≡◌, ℕ, ◌+◌, ◌<◌, ◌≤◌, Bool, true, false, cond, eqb, ltb, List, [], ◌∷◌, map, length, get_or, take, set, Some, None, sym, refl, ap, ◌∙◌, subst, arith}
 use Rattle.std.proofs.lemmas.List.{length-map, length-take-le, take-map, get_or-take}
 use Rattle.std.proofs.lemmas.Bool.{cond-true, cond-false, eq-eqb, ne_eqb, le-leb, lt-leb, ltb-true, ltb-false}
 use Rattle.std.proofs.lemmas.Bool.Decides.{nat_tests}
 use Rattle.cores.specs.Acting.{requested, within}
 use Rattle.cores.specs.Memory.{Rules, brought, stored}
 use Rattle.cores.specs.declared.interface.Request.{Request}
-use Rattle.records.specs.Settings.{fits, settled}
+use Rattle.records.specs.Settings.{settled}
 use Rattle.records.specs.declared.settings.Sizes.{Sizes}
 use Rattle.reducers.specs.Numbers.{Numbers}
 use Rattle.recorder.specs.Refusals.{Book, log_in, number_of, halts, touched, full, barred}
 use Rattle.recorder.specs.Turns.{Tape, World, world, Answered, answered, done_said, asks, rules, refusal, turned, Within, new_arcs, entered, Entered, Turned}
 use Rattle.recorder.specs.declared.rules.Refusal.{Refusal}
 use Rattle.recorder.specs.declared.rules.Refusal.TheVariants.{NoSuchCore, Halted, CountSpent, NoSuchCell, LogFull, BadSetting}
-
-pub settled_fits : (z : Sizes) (cores cells bytes : ℕ) → true ≡ settled z cores cells bytes → fits bytes z ≡ true
-settled_fits z cores cells bytes e = grind (arith, nat_tests)
 
 settled_cores : (z : Sizes) (cores cells bytes : ℕ) → true ≡ settled z cores cells bytes → z.cores ≤ cores
 settled_cores z cores cells bytes e = grind (arith, nat_tests)
@@ -75,22 +72,22 @@ module _ (meets : Numbers → Numbers → Type 0) (K : Rules) (j : ℕ) (w : Wor
 -- what one of the first P cores requests
 module _ {K : Type 0} (state : K → List ℕ) (next : List ℕ → List ℕ → Request) (text : List ℕ) (P : ℕ) (cores : List K) (enough : P ≤ length cores) (j : ℕ) where
   abbrev front : List (List ℕ)
-  front = map state (take (P - 0) cores)
+  front = map state (take P cores)
 
   front_is : front ≡ take P (map state cores)
-  front_is = let e : P - 0 ≡ P = omega arith in ap (λ n. map state (take n cores)) e ∙ sym (take-map state P cores)
+  front_is = sym (take-map state P cores)
 
   long : length front ≡ P
   long = ap length front_is ∙ length-take-le P (map state cores) (omega (arith, enough, length-map cores state))
 
-  pub none_asked : None ≡ requested next text front j → P ≤ j
+  none_asked : None ≡ requested next text front j → P ≤ j
   none_asked e = go (ltb j (length front)) refl e
     where
       go : (v : Bool) → ltb j (length front) ≡ v → None ≡ cond v (Some (next text (get_or front j []))) None → P ≤ j
-      go true q d = let x : ◌≡◌ {A = ℕ} 0 1 = cc in absurd (omega arith)
+      go true q d = absurd cc
       go false q d = omega (arith, ltb-false j (length front) q, long)
 
-  pub one_asked : (request : Request) → Some request ≡ requested next text front j → (j < P) × (request ≡ next text (get_or (map state cores) j []))
+  one_asked : (request : Request) → Some request ≡ requested next text front j → (j < P) × (request ≡ next text (get_or (map state cores) j []))
   one_asked request e = go (ltb j (length front)) refl e
     where
       go : (v : Bool) → ltb j (length front) ≡ v → Some request ≡ cond v (Some (next text (get_or front j []))) None → (j < P) × (request ≡ next text (get_or (map state cores) j []))
@@ -98,7 +95,7 @@ module _ {K : Type 0} (state : K → List ℕ) (next : List ℕ → List ℕ →
           let below : j < P = omega (arith, ltb-true j (length front) q, long) in
           let same : request ≡ next text (get_or front j []) = cc in
           (below, same ∙ ap (λ (s : List (List ℕ)). next text (get_or s j [])) front_is ∙ ap (next text) (get_or-take P (map state cores) j [] below))
-      go false q d = let x : ◌≡◌ {A = ℕ} 0 1 = cc in absurd (omega arith)
+      go false q d = absurd cc
 
 module _
     {K : Type 0} (state : K → List ℕ) (meets : Numbers → Numbers → Type 0)
@@ -121,14 +118,14 @@ module _
       pub enough : t.book.sizes.cores ≤ length cores
       enough = settled_cores t.book.sizes (length cores) (length cells) (length t.store) set_up
 
-      pub no_core : None ≡ requested next text (map state (take (t.book.sizes.cores - 0) cores)) j → Turned meets kind j before (answered (1 ∷ []) before)
+      pub no_core : None ≡ requested next text (map state (take t.book.sizes.cores cores)) j → Turned meets kind j before (answered (1 ∷ []) before)
       unfolding refusal
       no_core e =
           let h = none_asked state next text t.book.sizes.cores cores enough j e in
           let is : refusal kind j before ≡ 1 = simp (length-map, ← set_up, le-leb t.book.sizes.cores j h) in
           refused_is meets kind j before 1 is (λ q. omega arith)
 
-      module _ (request : Request) (e : Some request ≡ requested next text (map state (take (t.book.sizes.cores - 0) cores)) j) where
+      module _ (request : Request) (e : Some request ≡ requested next text (map state (take t.book.sizes.cores cores)) j) where
         pub below : j < t.book.sizes.cores
         below = (one_asked state next text t.book.sizes.cores cores enough j request e).0
 

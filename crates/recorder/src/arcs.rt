@@ -1,12 +1,17 @@
-// Which arcs go into a log for one access.
+// What goes into a log for one access.
 ghost use Rattle.std.specs.Prelude.{◌≡◌, ◌+◌, ◌*◌, ◌<◌, ◌≤◌, true, map, length};
 ghost use Rattle.accesses.specs.Histories.{one, present};
-ghost use Rattle.records.specs.Format.{entry, arc as arc_entry, bytes_of, written, splice};
+ghost use Rattle.records.specs.Format.{entry, arc as arc_entry, end as end_entry, bytes_of, written, splice};
 ghost use Rattle.records.specs.Settings.{fits};
 ghost use Rattle.recorder.specs.Judged.{Steps, fresh, moved, Logged};
+ghost use Rattle.recorder.specs.Refusals.{touched};
+ghost use Rattle.recorder.specs.Turns.{candidates_for, remembered_as, Accessed};
 
+use crate::rules::touch_of;
 use accesses::access::{Access, Candidate};
-use records::format::Record;
+use accesses::history::History;
+use cores::interface::Request;
+use records::format::{Arc, Record};
 use records::settings::Sizes;
 use records::writing::write_record;
 use reducers::interface::Reducer;
@@ -18,78 +23,107 @@ pub(crate) struct Tail {
     pub arcs: u16,
 }
 
-// Writes a record, for which there is room, and gives the offset behind it.
-pub(crate) fn append(
-    store: &mut [u8],
-    sizes: Sizes,
-    core: usize,
-    offset: usize,
-    record: Record,
-) -> usize
-    requires fitting { (fits (length store.old) sizes ≡ true) × (core < sizes.cores) }
-    requires room { offset + length (bytes_of (entry «record»)) ≤ sizes.log_bytes }
-    ensures place { result ≡ offset + length (bytes_of (entry «record»)) }
-    ensures bytes { store.new ≡ splice (core * sizes.log_bytes + offset) (bytes_of (entry «record»)) store.old }
-{
-    match write_record(store, sizes, core, offset, record) {
-        Ok(behind) => behind,
-        Err(_) => offset,
-    }
+// The log of an access's core, in the store of all logs, while the access is recorded.
+#[derive(Drop)]
+pub(crate) struct CoreLog<'a> {
+    pub store: &'a mut [u8],
+    pub sizes: Sizes,
+    pub by: Access,
+    pub tail: Tail,
+    ghost fitting: { fits (length store.now) sizes ≡ true },
+    ghost inside: { by.core < sizes.cores },
 }
 
-// Asks about one candidate, and where the answer is no appends its arc to `by` and takes it.
-fn log_one<R: Reducer>(
-    reducer: &mut R,
-    store: &mut [u8],
-    sizes: Sizes,
-    tail: Tail,
-    candidate: Option<Candidate>,
-    cell: usize,
-    by: Access,
-) -> Tail
-    requires fitting { (fits (length store.old) sizes ≡ true) × (by.core < sizes.cores) }
-    requires room { (tail.offset + 7 * one candidate ≤ sizes.log_bytes) × (tail.arcs < 65535) }
-    ensures judged { Steps R.Reducer.meets cell by.core (R.Reducer.numbers reducer.old) candidate (R.Reducer.numbers reducer.new) }
-    ensures bytes { store.new ≡ splice (by.core * sizes.log_bytes + tail.offset) (written (map arc_entry (fresh by (R.Reducer.numbers reducer.old) candidate))) store.old }
-    ensures tail { result ≡ moved tail (fresh by (R.Reducer.numbers reducer.old) candidate) }
-{
-    let Some(x) = candidate else {
-        return tail;
-    };
-    let j = by.core as usize;
-    if reducer.question(x.source, j) {
-        return tail;
-    }
-    let arc = Record::Arc {
-        source: x.source.core,
-        source_count: x.source.count,
-        target_count: by.count,
-    };
-    let offset = append(store, sizes, j, tail.offset, arc);
-    reducer.take(x.source, cell, x.kind, j);
-    Tail {
-        offset,
-        arcs: tail.arcs + 1,
-    }
-}
+impl CoreLog<'_> {
+    ghost use Rattle.recorder.specs.CoreLogs.{Same};
 
-// Goes over the candidates in their order.
-pub(crate) fn log_arcs<R: Reducer>(
-    reducer: &mut R,
-    store: &mut [u8],
-    sizes: Sizes,
-    tail: Tail,
-    candidates: [Option<Candidate>; 3],
-    cell: usize,
-    by: Access,
-) -> Tail
-    requires fitting { (fits (length store.old) sizes ≡ true) × (by.core < sizes.cores) }
-    requires room { (tail.offset + 7 * present candidates ≤ sizes.log_bytes) × (tail.arcs + 3 ≤ 65535) }
-    ensures { Logged R.Reducer.meets sizes cell by (R.Reducer.numbers reducer.old) candidates (R.Reducer.numbers reducer.new) tail store.old result store.new }
-{
-    let mut tail = tail;
-    for candidate in candidates {
-        tail = log_one(reducer, store, sizes, tail, candidate, cell, by);
+    // Writes a record, for which there is room.
+    pub(crate) fn append(&mut self, record: Record)
+        requires room { self.old.tail.offset + length (bytes_of (entry «record»)) ≤ self.old.sizes.log_bytes }
+        ensures same { Same self.old self.new }
+        ensures bytes { self.new.store.now ≡ splice (self.old.by.core * self.old.sizes.log_bytes + self.old.tail.offset) (bytes_of (entry «record»)) self.old.store.now }
+        ensures offset { self.new.tail.offset ≡ self.old.tail.offset + length (bytes_of (entry «record»)) }
+        ensures arcs { self.new.tail.arcs ≡ self.old.tail.arcs }
+    {
+        let core = usize::from(self.by.core);
+        let at = self.tail.offset;
+        self.tail.offset = write_record(self.store, self.sizes, core, at, record).unwrap_or(at);
     }
-    tail
+
+    // Writes the end record of the access.
+    pub(crate) fn end(&mut self)
+        requires room { self.old.tail.offset + 6 ≤ self.old.sizes.log_bytes }
+        ensures same { Same self.old self.new }
+        ensures bytes { self.new.store.now ≡ splice (self.old.by.core * self.old.sizes.log_bytes + self.old.tail.offset) (bytes_of (end_entry self.old.by.count self.old.tail.arcs)) self.old.store.now }
+    {
+        self.append(Record::End {
+            instructions: self.by.count,
+            arcs: self.tail.arcs,
+        });
+    }
+
+    // Asks about one candidate, and where the answer is no appends its arc and takes it.
+    fn log_one<R: Reducer>(&mut self, reducer: &mut R, candidate: Option<Candidate>, cell: usize)
+        requires room { self.old.tail.offset + 7 * one candidate ≤ self.old.sizes.log_bytes }
+        requires few { self.old.tail.arcs < 65535 }
+        ensures same { Same self.old self.new }
+        ensures judged { Steps R.Reducer.meets cell self.old.by.core (R.Reducer.numbers reducer.old) candidate (R.Reducer.numbers reducer.new) }
+        ensures bytes { self.new.store.now ≡ splice (self.old.by.core * self.old.sizes.log_bytes + self.old.tail.offset) (written (map arc_entry (fresh self.old.by (R.Reducer.numbers reducer.old) candidate))) self.old.store.now }
+        ensures tail { self.new.tail ≡ moved self.old.tail (fresh self.old.by (R.Reducer.numbers reducer.old) candidate) }
+    {
+        let Some(x) = candidate else {
+            return;
+        };
+        let j = usize::from(self.by.core);
+        if reducer.question(x.source, j) {
+            return;
+        }
+        self.append(Record::Arc(Arc {
+            source: x.source,
+            target: self.by.count,
+        }));
+        self.tail.arcs += 1;
+        reducer.take(x.source, cell, x.kind, j);
+    }
+
+    // Goes over the candidates in their order.
+    fn log_arcs<R: Reducer>(
+        &mut self,
+        reducer: &mut R,
+        candidates: [Option<Candidate>; 3],
+        cell: usize,
+    )
+        requires room { self.old.tail.offset + 7 * present candidates ≤ self.old.sizes.log_bytes }
+        requires few { self.old.tail.arcs + 3 ≤ 65535 }
+        ensures same { Same self.old self.new }
+        ensures logged { Logged R.Reducer.meets self.old.sizes cell self.old.by (R.Reducer.numbers reducer.old) candidates (R.Reducer.numbers reducer.new) self.old.tail self.old.store.now self.new.tail self.new.store.now }
+    {
+        for candidate in candidates {
+            self.log_one(reducer, candidate, cell);
+        }
+    }
+
+    // Logs and takes the arcs of an access, notes and remembers it; a local request does none of this.
+    pub(crate) fn log_access<R: Reducer>(
+        &mut self,
+        reducer: &mut R,
+        history: &mut History,
+        request: Request,
+    )
+        requires room { self.old.tail.offset + 7 * present (candidates_for self.old.sizes.cores history.old.cells self.old.by.core (touched request)) ≤ self.old.sizes.log_bytes }
+        requires few { self.old.tail.arcs + 3 ≤ 65535 }
+        ensures same { Same self.old self.new }
+        ensures logged { Accessed R.Reducer.meets self.old.sizes history.old.cells self.old.by (touched request) (R.Reducer.numbers reducer.old) (R.Reducer.numbers reducer.new) self.old.tail self.old.store.now self.new.tail self.new.store.now }
+        ensures remembered { history.new.cells ≡ remembered_as history.old.cells self.old.by (touched request) }
+    {
+        let Some(touch) = touch_of(request) else {
+            return;
+        };
+        let cell = usize::from(touch.cell);
+        let j = usize::from(self.by.core);
+        let candidates = history.candidates(self.sizes.cores, cell, j, touch.kind);
+        self.log_arcs(reducer, candidates, cell);
+        reducer.note(j, cell, touch.kind);
+        history.remember(cell, self.by, touch.kind);
+    }
 }

@@ -10,6 +10,15 @@ pub struct Log {
     pub end: usize,
 }
 
+impl Log {
+    // No records but head and end.
+    pub(crate) const EMPTY: Log = Log {
+        instructions: 0,
+        arcs: 0,
+        end: 6,
+    };
+}
+
 // The sizes of the session, each core's log, and how many turns were accepted.
 #[derive(Clone, Copy)]
 pub struct Ledger {

@@ -1,21 +1,19 @@
 // The recorder: begin, and turns.
 ghost use Rattle.std.specs.Prelude.{◌≡◌, ◌+◌, ◌*◌, ◌<◌, ◌≤◌, true, [], length};
-ghost use Rattle.accesses.specs.Histories.{present};
-ghost use Rattle.records.specs.Format.{end as end_entry, bytes_of, splice};
 ghost use Rattle.records.specs.Settings.{fits, no_sizes, SurplusKept};
 ghost use Rattle.recorder.specs.Decided.{OneOutcome};
-ghost use Rattle.recorder.specs.Refusals.{book, log_in, touched, barred};
-ghost use Rattle.recorder.specs.Turns.{headed, headed_from, candidates_for, remembered_as, Accessed, fresh_tape, tape, Entered, rules, scene, answered, said, begun, begun_said, Turned, kept, unmoved};
+ghost use Rattle.recorder.specs.Refusals.{book, log_in, barred};
+ghost use Rattle.recorder.specs.Turns.{headed, headed_from, fresh_tape, tape, Entered, rules, scene, answered, said, begun, begun_said, Turned, kept, unmoved};
 
-use crate::arcs::{Tail, append, log_arcs};
-use crate::ledger::Ledger;
-use crate::rules::{Refusal, touch_of};
+use crate::arcs::{CoreLog, Tail};
+use crate::ledger::{Ledger, Log};
+use crate::rules::Refusal;
 use accesses::access::Access;
 use accesses::history::History;
 use cores::acting::{act, request_of, tell_core};
 use cores::interface::{Core, Request};
 use records::format::Record;
-use records::settings::{Sizes, buffers_hold};
+use records::settings::{Heading, Sizes, buffers_hold};
 use reducers::interface::Reducer;
 
 // An instruction that was carried out: the request, its count, the number that it brought and how many arcs were logged.
@@ -27,31 +25,31 @@ pub struct Recorded {
     pub arcs: u16,
 }
 
-// Writes the end record of the log of `core`, whose tail says where and how many arcs.
-fn end_log(store: &mut [u8], sizes: Sizes, core: usize, tail: Tail, instructions: u16)
-    requires fitting { (fits (length store.old) sizes ≡ true) × (core < sizes.cores) }
-    requires room { tail.offset + 6 ≤ sizes.log_bytes }
-    ensures { store.new ≡ splice (core * sizes.log_bytes + tail.offset) (bytes_of (end_entry instructions tail.arcs)) store.old }
-{
-    let end = Record::End {
-        instructions,
-        arcs: tail.arcs,
-    };
-    append(store, sizes, core, tail.offset, end);
-}
-
 // Writes a head and an end record into the log of `core`.
 fn begin_log(store: &mut [u8], sizes: Sizes, core: usize)
-    requires { (fits (length store.old) sizes ≡ true) × (core < sizes.cores) }
+    requires fitting { fits (length store.old) sizes ≡ true }
+    requires inside { core < sizes.cores }
     ensures { store.new ≡ headed sizes core store.old }
 {
-    let head = Record::Head {
+    // no access yet
+    let by = Access {
+        core: core as u8,
+        count: 0,
+        position: 0,
+    };
+    let tail = Tail { offset: 0, arcs: 0 };
+    let mut log = CoreLog {
+        store,
+        sizes,
+        by,
+        tail,
+    };
+    log.append(Record::Head(Heading {
         core: core as u8,
         cores: sizes.cores as u8,
         cells: sizes.cells as u16,
-    };
-    let offset = append(store, sizes, core, 0, head);
-    end_log(store, sizes, core, Tail { offset, arcs: 0 }, 0);
+    }));
+    log.end();
 }
 
 // Writes a head and an end record into each log.
@@ -62,33 +60,6 @@ fn begin_logs(store: &mut [u8], sizes: Sizes)
     for core in 0..sizes.cores {
         begin_log(store, sizes, core);
     }
-}
-
-// Logs and takes the arcs of an access, notes and remembers it; a local request does none of this.
-fn log_access<R: Reducer>(
-    reducer: &mut R,
-    history: &mut History,
-    store: &mut [u8],
-    sizes: Sizes,
-    tail: Tail,
-    request: Request,
-    by: Access,
-) -> Tail
-    requires fitting { (fits (length store.old) sizes ≡ true) × (by.core < sizes.cores) }
-    requires room { (tail.offset + 7 * present (candidates_for sizes.cores history.old.cells by.core (touched request)) ≤ sizes.log_bytes) × (tail.arcs + 3 ≤ 65535) }
-    ensures logged { Accessed R.Reducer.meets sizes history.old.cells by (touched request) (R.Reducer.numbers reducer.old) (R.Reducer.numbers reducer.new) tail store.old result store.new }
-    ensures remembered { history.new.cells ≡ remembered_as history.old.cells by (touched request) }
-{
-    let Some(touch) = touch_of(request) else {
-        return tail;
-    };
-    let cell = touch.cell as usize;
-    let j = by.core as usize;
-    let candidates = history.candidates(sizes.cores, cell, j, touch.kind);
-    let behind = log_arcs(reducer, store, sizes, tail, candidates, cell, by);
-    reducer.note(j, cell, touch.kind);
-    history.remember(cell, by, touch.kind);
-    behind
 }
 
 // Records the turns of one session after another.
@@ -141,35 +112,34 @@ impl<R: Reducer> Recorder<R> {
     // Records that core `j` goes on with `request`: its arcs, its count and its end record.
     // Gives the count, and how many arcs were logged.
     fn enter(&mut self, store: &mut [u8], j: usize, request: Request) -> (u16, u16)
-        requires fitting { (fits (length store.old) self.old.ledger.sizes ≡ true) × (j < self.old.ledger.sizes.cores) }
+        requires fitting { fits (length store.old) self.old.ledger.sizes ≡ true }
+        requires inside { j < self.old.ledger.sizes.cores }
         requires unbarred { barred (book self.old.ledger) j request ≡ 0 }
         ensures count { result.0 ≡ (log_in (book self.old.ledger) j).instructions + 1 }
         ensures entered { Entered R.Reducer.meets (tape R.Reducer.numbers self.old store.old) j request result.1 (tape R.Reducer.numbers self.new store.new) }
     {
-        let sizes = self.ledger.sizes;
-        let log = self.ledger.logs[j];
-        let count = log.instructions + 1;
+        let Log {
+            instructions,
+            arcs,
+            end,
+        } = self.ledger.logs[j];
         let by = Access {
             core: j as u8,
-            count,
+            count: instructions + 1,
             position: self.ledger.position + 1,
         };
-        let tail = Tail {
-            offset: log.end,
-            arcs: log.arcs,
-        };
-        let behind = log_access(
-            &mut self.reducer,
-            &mut self.history,
+        let tail = Tail { offset: end, arcs };
+        let mut log = CoreLog {
             store,
-            sizes,
-            tail,
-            request,
+            sizes: self.ledger.sizes,
             by,
-        );
-        end_log(store, sizes, j, behind, count);
+            tail,
+        };
+        log.log_access(&mut self.reducer, &mut self.history, request);
+        let behind = log.tail;
+        log.end();
         self.ledger.count(j, behind.arcs, behind.offset);
-        (count, behind.arcs - log.arcs)
+        (by.count, behind.arcs - arcs)
     }
 
     // One turn of core `j`. A refusal changes nothing.
@@ -190,13 +160,9 @@ impl<R: Reducer> Recorder<R> {
         if !buffers_hold(sizes, cores.len(), cells.len(), store.len()) {
             return Err(Refusal::BadSetting);
         }
-        let session = sizes.cores;
-        let Some(request) = request_of(text, &cores[0..session], j) else {
-            return Err(Refusal::NoSuchCore);
-        };
-        if let Some(refusal) = self.ledger.bars(j, request) {
-            return Err(refusal);
-        }
+        let session = &cores[..sizes.cores];
+        let request = request_of(text, session, j).ok_or(Refusal::NoSuchCore)?;
+        self.ledger.admit(j, request)?;
         let (count, arcs) = self.enter(store, j, request);
         let number = act(request, cells);
         tell_core(text, cores, j, number);

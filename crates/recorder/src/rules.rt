@@ -1,5 +1,6 @@
 // Which turns are refused, and how the ledger counts the others.
 ghost use Rattle.std.specs.Prelude.{◌≡◌, ◌+◌, ◌*◌, ◌<◌, ◌≤◌, slice_index_or};
+ghost use Rattle.std.specs.Result.{result_err};
 ghost use Rattle.recorder.specs.Sound.{no_log};
 ghost use Rattle.recorder.specs.Refusals.{book, touched, barred, code, counted_in, started};
 
@@ -45,51 +46,48 @@ pub(crate) fn touch_of(request: Request) -> Option<Touch>
 }
 
 impl Ledger {
-    // A ledger of logs with no records but head and end.
+    // A ledger of empty logs.
     pub(crate) fn new(sizes: Sizes) -> Ledger
-        requires { (sizes.cores ≤ 4) × ((0 < sizes.cores → 12 ≤ sizes.log_bytes)) }
+        requires few { sizes.cores ≤ 4 }
+        requires room { 0 < sizes.cores → 12 ≤ sizes.log_bytes }
         ensures { book result ≡ started sizes }
     {
-        let log = Log {
-            instructions: 0,
-            arcs: 0,
-            end: 6,
-        };
         Ledger {
             sizes,
-            logs: [log; 4],
+            logs: [Log::EMPTY; 4],
             position: 0,
         }
     }
 
-    // Why core `j` may not go on with `request`.
-    pub(crate) fn bars(&self, j: usize, request: Request) -> Option<Refusal>
-        requires { (j < self.now.sizes.cores) × (self.now.sizes.cores ≤ 4) }
-        ensures { code result ≡ barred (book self.now) j request }
+    // Whether core `j` may go on with `request`, or why not.
+    pub(crate) fn admit(&self, j: usize, request: Request) -> Result<(), Refusal>
+        requires { j < self.now.sizes.cores }
+        ensures { code (result_err result) ≡ barred (book self.now) j request }
     {
         let log = self.logs[j];
-        if let Request::Halt = request {
-            return Some(Refusal::Halted);
+        if request == Request::Halt {
+            return Err(Refusal::Halted);
         }
         if log.instructions == 65535 {
-            return Some(Refusal::CountSpent);
+            return Err(Refusal::CountSpent);
         }
         if !cell_exists(request, self.sizes.cells) {
-            return Some(Refusal::NoSuchCell);
+            return Err(Refusal::NoSuchCell);
         }
         // one arc from each other core must fit, whatever the reducer will answer
         let free = self.sizes.log_bytes - (log.end + 6);
-        match touch_of(request) {
-            Some(_) if free < 7 * (self.sizes.cores - 1) => Some(Refusal::LogFull),
-            _ => None,
+        if touch_of(request).is_some() && free < 7 * (self.sizes.cores - 1) {
+            return Err(Refusal::LogFull);
         }
+        Ok(())
     }
 
     // Counts one more instruction of core `j`, whose log now has so many arcs and its end record there.
     pub(crate) fn count(&mut self, j: usize, arcs: u16, end: usize)
-        requires inside { (j < self.old.sizes.cores) × (self.old.sizes.cores ≤ 4) }
+        requires inside { j < self.old.sizes.cores }
         requires unspent { (slice_index_or self.old.logs j no_log).instructions < 65535 }
-        requires room { (6 + 7 * arcs ≤ end) × (end + 6 ≤ self.old.sizes.log_bytes) }
+        requires behind { 6 + 7 * arcs ≤ end }
+        requires room { end + 6 ≤ self.old.sizes.log_bytes }
         ensures { book self.new ≡ counted_in (book self.old) j arcs end }
     {
         let instructions = self.logs[j].instructions + 1;

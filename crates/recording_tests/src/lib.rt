@@ -3,7 +3,7 @@
 
 #[cfg(test)]
 mod tests {
-    use cores::interface::{Core, Request};
+    use cores::interface::{Core, Request, StartingCore};
     use cores::register::RegisterCore;
     use cores::script::ScriptCore;
     use recorder::recording::Recorder;

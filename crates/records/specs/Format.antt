@@ -16,8 +16,8 @@ pub data Entry : Type 0 where
   end : (instructions arcs : ℕ) → Entry
 
 abbrev pub entry : Record → Entry
-entry (Head core cores cells) = head core cores cells
-entry (Arc source count target) = arc (record { source = source; count = count; target = target })
+entry (Head h) = head h.core h.cores h.cells
+entry (Arc a) = arc (record { source = a.source.core; count = a.source.count; target = a.target })
 entry (End instructions arcs) = end instructions arcs
 
 -- a count in two bytes, high byte first

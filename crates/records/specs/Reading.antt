@@ -8,6 +8,7 @@ use Rattle.records.specs.declared.format.Record.{Record}
 use Rattle.records.specs.declared.reading.State.{State}
 use Rattle.records.specs.declared.reading.State.TheVariants.{Before, Among, After}
 use Rattle.records.specs.declared.reading.SavedPlace.{SavedPlace}
+use Rattle.records.specs.declared.store.Logs.{Logs}
 use Rattle.records.specs.declared.reading.Reader.{Reader}
 use Rattle.records.specs.declared.settings.Sizes.{Sizes}
 use Rattle.records.specs.declared.settings.Heading.{Heading}
@@ -172,6 +173,18 @@ abbrev pub held_said : Result (Option Record) SessionFault → Result (Option En
 held_said (Ok (Some r)) = Ok (Some (entry r))
 held_said (Ok None) = Ok None
 held_said (Err e) = Err (session_fault e)
+
+-- the logs of a session, by the store that holds them and their sizes
+pub record Held : Type 0 where
+  pub store : List ℕ
+  pub sizes : Sizes
+
+abbrev pub logs_in : List ℕ → Sizes → Result Held (List ℕ)
+logs_in store z = cond (fits (length store) z) (Ok (record { store = store; sizes = z })) (Err bad_setting)
+
+abbrev pub logs_as : Result Logs Refusal → Result Held (List ℕ)
+logs_as (Ok l) = Ok (record { store = l.store.now; sizes = l.sizes })
+logs_as (Err e) = Err (refusal e)
 
 -- a reader at the front of a core's log, or behind a saved place in it
 abbrev pub resumed : SavedPlace → State

@@ -5,4 +5,5 @@ pub mod faults;
 pub mod format;
 pub mod reading;
 pub mod settings;
+pub mod store;
 pub mod writing;

@@ -1,11 +1,12 @@
 ghost use Rattle.std.specs.Prelude.{◌≡◌, ◌+◌, ◌^◌, ◌<◌, length, slice_index, slice_set};
-ghost use Rattle.records.specs.Reading.{view, moved, reader_at, reader_as, resumed, arc_stands, follows, judged_as, seen, seen_as, held, held_as, next_record, next_held, said, held_said, place_in, instructions_in};
+ghost use Rattle.records.specs.Reading.{view, moved, logs_in, logs_as, reader_at, reader_as, resumed, arc_stands, follows, judged_as, seen, seen_as, held, held_as, next_record, next_held, said, held_said, place_in, instructions_in};
 ghost use Rattle.records.specs.Format.{entry, bytes_of};
 ghost use Rattle.records.specs.declared.reading.State.TheVariants.{Before};
 
 use crate::faults::{Location, RecordFault, Refusal, SessionFault};
-use crate::format::{Record, read_record};
+use crate::format::{Arc, Record, read_record};
 use crate::settings::{Heading, Sizes};
+use crate::store::Logs;
 
 // How far a log has been read. Among the arcs: the last target, each source core's latest target (0: none),
 // and the arcs read, counted up to 65,536, which no end record can say.
@@ -31,6 +32,53 @@ pub struct SavedPlace {
     pub arcs: u32,
 }
 
+impl<'a> Logs<'a> {
+    // Refused where the sizes are out of range or the store is too short for them.
+    pub fn new(store: &'a [u8], sizes: Sizes) -> Result<Logs<'a>, Refusal>
+        ensures { logs_as result ≡ logs_in store.now sizes }
+    {
+        if !sizes.fit(store.len()) {
+            return Err(Refusal::BadSetting);
+        }
+        Ok(Logs { store, sizes })
+    }
+
+    // How many logs there are.
+    pub fn count(self) -> usize
+        ensures { result ≡ self.entry.sizes.cores }
+    {
+        self.sizes.cores
+    }
+
+    // A reader at the front of a core's log.
+    pub fn reader(self, core: usize) -> Result<Reader<'a>, Refusal>
+        ensures { reader_as result ≡ reader_at self.entry.store.now self.entry.sizes core 0 Before }
+    {
+        self.reader_at(core, 0, State::Before)
+    }
+
+    fn reader_at(self, core: usize, cursor: usize, state: State) -> Result<Reader<'a>, Refusal>
+        ensures { reader_as result ≡ reader_at self.entry.store.now self.entry.sizes core cursor state }
+    {
+        if core >= self.sizes.cores {
+            return Err(Refusal::BadSetting);
+        }
+        let from = core * self.sizes.log_bytes;
+        let log = &self.store[from..from + self.sizes.log_bytes];
+        let heading = Heading {
+            core: core as u8,
+            cores: self.sizes.cores as u8,
+            cells: self.sizes.cells as u16,
+        };
+        Ok(Reader {
+            log,
+            heading,
+            cursor,
+            state,
+        })
+    }
+}
+
 // Reads one core's log in place.
 #[derive(Clone, Copy)]
 pub struct Reader<'a> {
@@ -45,7 +93,7 @@ impl<'a> Reader<'a> {
     pub fn new(store: &'a [u8], sizes: Sizes, core: usize) -> Result<Reader<'a>, Refusal>
         ensures { reader_as result ≡ reader_at store.now sizes core 0 Before }
     {
-        Reader::at(store, sizes, core, 0, State::Before)
+        Logs::new(store, sizes)?.reader(core)
     }
 
     // A reader that goes on from a saved place.
@@ -57,40 +105,14 @@ impl<'a> Reader<'a> {
     ) -> Result<Reader<'a>, Refusal>
         ensures { reader_as result ≡ reader_at store.now sizes core place.offset (resumed place) }
     {
-        let latest = place.latest;
-        let state = State::Among {
-            last: place.last,
+        let SavedPlace {
+            offset,
+            last,
             latest,
-            arcs: place.arcs,
-        };
-        Reader::at(store, sizes, core, place.offset, state)
-    }
-
-    fn at(
-        store: &'a [u8],
-        sizes: Sizes,
-        core: usize,
-        cursor: usize,
-        state: State,
-    ) -> Result<Reader<'a>, Refusal>
-        ensures { reader_as result ≡ reader_at store.now sizes core cursor state }
-    {
-        if !sizes.fit(store.len()) || core >= sizes.cores {
-            return Err(Refusal::BadSetting);
-        }
-        let from = core * sizes.log_bytes;
-        let log = &store[from..from + sizes.log_bytes];
-        let heading = Heading {
-            core: core as u8,
-            cores: sizes.cores as u8,
-            cells: sizes.cells as u16,
-        };
-        Ok(Reader {
-            log,
-            heading,
-            cursor,
-            state,
-        })
+            arcs,
+        } = place;
+        let state = State::Among { last, latest, arcs };
+        Logs::new(store, sizes)?.reader_at(core, offset, state)
     }
 }
 
@@ -98,7 +120,7 @@ impl<'a> Reader<'a> {
 pub fn number_of(table: &[u16; 4], core: u8) -> u16
     ensures { result ≡ slice_index table.now core }
 {
-    if core < 4 { table[core as usize] } else { 0 }
+    table.get(usize::from(core)).copied().unwrap_or(0)
 }
 
 // The table with a source core's number replaced.
@@ -106,23 +128,23 @@ fn with_number(table: [u16; 4], core: u8, number: u16) -> [u16; 4]
     ensures { result ≡ slice_set table core number }
 {
     let mut all = table;
+    // std's `get_mut` does not say what the table ends as
     if core < 4 {
-        all[core as usize] = number;
+        all[usize::from(core)] = number;
     }
     all
 }
 
-// Whether a log of this heading may have an arc from instruction `from` of core `source` to its instruction `to`,
-// behind the target `last`, where `latest` has each source core's latest target.
-fn arc_stands(heading: Heading, last: u16, latest: [u16; 4], source: u8, from: u16, to: u16) -> bool
-    ensures { result ≡ arc_stands heading last latest source from to }
+// Whether a log of this heading may have the arc behind the target `last`, where `latest` has each source core's latest target.
+fn arc_stands(heading: Heading, last: u16, latest: [u16; 4], arc: Arc) -> bool
+    ensures { result ≡ arc_stands heading last latest arc.source.core arc.source.count arc.target }
 {
-    source < heading.cores
-        && source != heading.core
-        && 0 < from
-        && 0 < to
-        && last <= to
-        && number_of(&latest, source) != to
+    arc.source.core < heading.cores
+        && arc.source.core != heading.core
+        && 0 < arc.source.count
+        && 0 < arc.target
+        && last <= arc.target
+        && number_of(&latest, arc.source.core) != arc.target
 }
 
 impl Reader<'_> {
@@ -132,46 +154,17 @@ impl Reader<'_> {
         ensures { judged_as result ≡ follows self.now.heading self.now.state at.offset (entry «record») }
     {
         match (self.state, record) {
-            (State::Before, Record::Head { core, cores, cells }) => {
-                if core == self.heading.core
-                    && cores == self.heading.cores
-                    && cells == self.heading.cells
-                {
-                    Ok(State::Among {
-                        last: 0,
-                        latest: [0; 4],
-                        arcs: 0,
-                    })
-                } else {
-                    Err(RecordFault::BadHead(at))
-                }
-            }
-            (
-                State::Among { last, latest, arcs },
-                Record::Arc {
-                    source,
-                    source_count,
-                    target_count,
-                },
-            ) => {
-                if arc_stands(
-                    self.heading,
-                    last,
-                    latest,
-                    source,
-                    source_count,
-                    target_count,
-                ) {
-                    let latest = with_number(latest, source, target_count);
-                    Ok(State::Among {
-                        last: target_count,
-                        latest,
-                        arcs: arcs.min(65535) + 1,
-                    })
-                } else {
-                    Err(RecordFault::BadArc(at))
-                }
-            }
+            (State::Before, Record::Head(heading)) if heading == self.heading => Ok(State::Among {
+                last: 0,
+                latest: [0; 4],
+                arcs: 0,
+            }),
+            (State::Among { last, latest, arcs }, Record::Arc(arc))
+                if arc_stands(self.heading, last, latest, arc) => Ok(State::Among {
+                last: arc.target,
+                latest: with_number(latest, arc.source.core, arc.target),
+                arcs: arcs.min(65535) + 1,
+            }),
             (
                 State::Among {
                     last,
@@ -179,17 +172,15 @@ impl Reader<'_> {
                     ..
                 },
                 Record::End { instructions, arcs },
-            ) => {
-                if read == arcs as u32 && last <= instructions {
-                    Ok(State::After { instructions })
-                } else {
-                    Err(RecordFault::BadEnd(at))
-                }
-            }
+            ) if read == u32::from(arcs) && last <= instructions => Ok(State::After {
+                instructions,
+            }),
             (State::After { .. }, _) => Ok(self.state),
-            (State::Before, _) | (State::Among { .. }, Record::Head { .. }) => Err(
-                RecordFault::BadHead(at),
-            ),
+            (State::Before, _) | (State::Among { .. }, Record::Head(_)) => Err(RecordFault::BadHead(
+                at,
+            )),
+            (State::Among { .. }, Record::Arc(_)) => Err(RecordFault::BadArc(at)),
+            (State::Among { .. }, Record::End { .. }) => Err(RecordFault::BadEnd(at)),
         }
     }
 
@@ -230,13 +221,8 @@ impl Reader<'_> {
         let Some((record, state)) = self.peek()? else {
             return Ok(None);
         };
-        if let Record::Arc {
-            source,
-            source_count,
-            ..
-        } = record
-        {
-            if source_count > number_of(counts, source) {
+        if let Record::Arc(Arc { source, .. }) = record {
+            if source.count > number_of(counts, source.core) {
                 let offset = self.cursor;
                 return Err(SessionFault::Source(Location {
                     core: self.heading.core,

@@ -14,12 +14,9 @@ impl Sizes {
     pub fn fit(self, store_bytes: usize) -> bool
         ensures { result ≡ fits store_bytes self }
     {
-        1 <= self.cores
-            && self.cores <= 4
-            && 1 <= self.cells
-            && self.cells <= 256
-            && 12 <= self.log_bytes
-            && self.log_bytes <= 16384
+        (1..=4).contains(&self.cores)
+            && (1..=256).contains(&self.cells)
+            && (12..=16384).contains(&self.log_bytes)
             && self.cores * self.log_bytes <= store_bytes
     }
 }
@@ -32,7 +29,7 @@ pub fn buffers_hold(sizes: Sizes, cores: usize, cells: usize, store_bytes: usize
 }
 
 // What a log's head must say: the log's core, and the cores and cells of the session.
-#[derive(Clone, Copy)]
+#[derive(Clone, Copy, PartialEq, Eq, Debug)]
 pub struct Heading {
     pub core: u8,
     pub cores: u8,

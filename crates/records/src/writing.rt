@@ -3,7 +3,7 @@ ghost use Rattle.records.specs.Format.{entry, bytes_of, splice};
 ghost use Rattle.records.specs.Writing.{behind_as, write_at};
 
 use crate::faults::Refusal;
-use crate::format::{Record, arc_bytes, end_bytes, head_bytes};
+use crate::format::{Record, end_bytes};
 use crate::settings::Sizes;
 
 // Puts `bytes` at `at`.
@@ -20,16 +20,8 @@ fn put_record(store: &mut [u8], at: usize, record: Record)
     ensures { store.new ≡ splice at (bytes_of (entry «record»)) store.old }
 {
     match record {
-        Record::Head { core, cores, cells } => put_bytes(
-            store,
-            at,
-            &head_bytes(core, cores, cells),
-        ),
-        Record::Arc {
-            source,
-            source_count,
-            target_count,
-        } => { put_bytes(store, at, &arc_bytes(source, source_count, target_count)) }
+        Record::Head(heading) => put_bytes(store, at, &heading.bytes()),
+        Record::Arc(arc) => put_bytes(store, at, &arc.bytes()),
         Record::End { instructions, arcs } => put_bytes(store, at, &end_bytes(instructions, arcs)),
     }
 }

@@ -1,23 +1,22 @@
 ghost use Rattle.std.specs.Prelude.{◌≡◌, replicate};
-ghost use Rattle.reducer_tests.specs.Forgets.{forgetful_numbers, KnowsSomething};
+ghost use Rattle.reducer_tests.specs.Forgets.{forgetful_numbers, nothing, KnowsSomething};
 ghost use borrow.Author.Rules.{of_blocks};
 
-use reducers::interface::{AccessKind, Reducer, Source};
+use records::format::Source;
+use reducers::interface::{AccessKind, Reducer, in_range};
 
 // Knows the last arc taken to each core, until that core's next note.
 #[derive(Clone, Copy)]
 pub struct Forgetful {
-    cores: [u8; 4],
-    counts: [u16; 4],
+    latest: [Source; 4],
 }
 
 impl Forgetful {
     pub fn new() -> Forgetful
-        ensures { (result.cores ≡ replicate 4 0) × (result.counts ≡ replicate 4 0) }
+        ensures { result.latest ≡ replicate 4 nothing }
     {
         Forgetful {
-            cores: [0; 4],
-            counts: [0; 4],
+            latest: [Source { core: 0, count: 0 }; 4],
         }
     }
 }
@@ -28,25 +27,25 @@ impl Reducer for Forgetful {
     ghost bounded = { Prim.search of_blocks };
 
     fn reset(&mut self) {
-        self.counts = [0; 4];
+        *self = Forgetful::new();
     }
 
     fn question(&self, source: Source, j: usize) -> bool {
         source.core < 4
             && j < 4
-            && (source.count == 0 || self.cores[j] == source.core && source.count <= self.counts[j])
+            && (source.count == 0
+                || self.latest[j].core == source.core && source.count <= self.latest[j].count)
     }
 
     fn take(&mut self, source: Source, cell: usize, kind: AccessKind, j: usize) {
-        if source.core < 4 && j < 4 && cell < 256 {
-            self.cores[j] = source.core;
-            self.counts[j] = source.count;
+        if in_range(source, j, cell) {
+            self.latest[j] = source;
         }
     }
 
     fn note(&mut self, j: usize, cell: usize, kind: AccessKind) {
         if j < 4 && cell < 256 {
-            self.counts[j] = 0;
+            self.latest[j].count = 0;
         }
     }
 }

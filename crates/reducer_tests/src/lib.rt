@@ -6,8 +6,9 @@ pub mod forgetful;
 #[cfg(test)]
 mod tests {
     use crate::forgetful::Forgetful;
+    use records::format::Source;
     use reducers::exact::Exact;
-    use reducers::interface::{AccessKind, Reducer, Source};
+    use reducers::interface::{AccessKind, Reducer};
     use reducers::keep_all::KeepAll;
     use reducers::pairwise::Pairwise;
 

@@ -1,5 +1,5 @@
 -- What the numbers of each reducer are.
-use Rattle.std.specs.Prelude.{◌≡◌, ℕ, cond, List, [], get_or, ◌==◌, slice_index, slice_index_or}
+use Rattle.std.specs.Prelude.{◌≡◌, ℕ, List, [], get_or, slice_index, slice_index_or, slice_set}
 use Rattle.reducers.specs.declared.interface.AccessKind.{AccessKind}
 use Rattle.reducers.specs.declared.interface.AccessKind.TheVariants.{Read, Write}
 use Rattle.reducers.specs.Numbers.{Numbers}
@@ -19,13 +19,13 @@ row rows j k = slice_index (get_or rows j no_row).at k
 
 abbrev pub exact_numbers : Exact → Numbers
 exact_numbers e = record {
-  known = row e.known;
+  known = row e.known.rows;
   written = λ c k. slice_index (get_or e.cells c no_stamps).written.at k;
   read = λ i c k. row (get_or e.cells c no_stamps).read i k;
 }
 
 abbrev pub pairwise_numbers : Pairwise → Numbers
-pairwise_numbers p = record { known = row p.known; written = λ _ _. 0; read = λ _ _ _. 0 }
+pairwise_numbers p = record { known = row p.known.rows; written = λ _ _. 0; read = λ _ _ _. 0 }
 
 -- the same known numbers, and no stamp
 pub record KnownOnly (n b : Numbers) : Type 0 where
@@ -37,6 +37,6 @@ abbrev pub stamp_in : Stamps → ℕ → AccessKind → Row
 stamp_in s i Write = s.written
 stamp_in s i Read = slice_index_or s.read i no_row
 
-abbrev pub NotedIn : Stamps → ℕ → AccessKind → Row → Stamps → Type 0
-NotedIn s j Write row r = (r.written ≡ row) × ((i : ℕ) → slice_index_or r.read i no_row ≡ slice_index_or s.read i no_row)
-NotedIn s j Read row r = (r.written ≡ s.written) × ((i : ℕ) → slice_index_or r.read i no_row ≡ cond (i == j) row (slice_index_or s.read i no_row))
+abbrev pub noted_in : Stamps → ℕ → AccessKind → Row → Stamps
+noted_in s j Write row = record { written = row; read = s.read }
+noted_in s j Read row = record { written = s.written; read = slice_set s.read j row }

@@ -1,15 +1,17 @@
-ghost use Rattle.std.specs.Prelude.{◌≡◌, ℕ, ◌<◌, max, if◌then◌else◌, nat_eq, slice_index, slice_index_or};
-ghost use Rattle.reducers.specs.Numbers.{zeros};
+ghost use Rattle.std.specs.Prelude.{◌≡◌, ℕ, ◌&&◌, if◌then◌else◌, nat_eq, slice_index, slice_index_or};
+ghost use Rattle.reducers.specs.Numbers.{zeros, core?};
 ghost use Rattle.reducers.specs.Rows.{no_stamps, stamp_in, exact_numbers};
 ghost use borrow.Author.Rules.{of_blocks};
 
-use crate::interface::{AccessKind, Reducer, Source};
+use crate::interface::{AccessKind, Reducer, in_range};
+use crate::known::Known;
 use crate::rows::{Row, Stamps};
+use records::format::Source;
 
 // Knows all that follows from the arcs taken, by the stamp of each arc's source.
 #[derive(Drop)]
 pub struct Exact {
-    known: [Row; 4],
+    known: Known,
     cells: [Stamps; 256],
 }
 
@@ -17,24 +19,28 @@ impl Exact {
     pub fn new() -> Exact
         ensures { exact_numbers result ≡ zeros }
     {
-        let row = Row { at: [0; 4] };
-        let stamps = Stamps {
-            written: row,
-            read: [row; 4],
-        };
         Exact {
-            known: [row; 4],
-            cells: [stamps; 256],
+            known: Known::new(),
+            cells: [Stamps::default(); 256],
+        }
+    }
+
+    // The stamp of an access of core `i` to the cell.
+    fn stamp(&self, i: usize, cell: usize, kind: AccessKind) -> Row
+        ensures { (k : ℕ) → slice_index result.at k ≡ slice_index (stamp_in (slice_index_or self.now.cells cell no_stamps) i kind).at k }
+    {
+        match self.cells.get(cell) {
+            Some(stamps) => stamps.stamp(i, kind),
+            None => Row::default(),
         }
     }
 
     // What an arc from the source tells: the source's count, and for each other core the source's stamp.
     fn told_by(&self, source: Source, cell: usize, kind: AccessKind) -> Row
-        requires { (source.core < 4) × (cell < 256) }
-        ensures { (k : ℕ) → slice_index result.at k ≡ (if nat_eq k source.core then source.count else slice_index (stamp_in (slice_index_or self.now.cells cell no_stamps) source.core kind).at k) }
+        ensures { (k : ℕ) → slice_index result.at k ≡ (if core? source.core && nat_eq k source.core then source.count else slice_index (stamp_in (slice_index_or self.now.cells cell no_stamps) source.core kind).at k) }
     {
-        let i = source.core as usize;
-        let stamp = self.cells[cell].stamp(i, kind);
+        let i = usize::from(source.core);
+        let stamp = self.stamp(i, cell, kind);
         stamp.with(i, source.count)
     }
 }
@@ -51,19 +57,20 @@ impl Reducer for Exact {
     }
 
     fn question(&self, source: Source, j: usize) -> bool {
-        source.core < 4 && j < 4 && source.count <= self.known[j].number(source.core as usize)
+        self.known.knows(source, j)
     }
 
     fn take(&mut self, source: Source, cell: usize, kind: AccessKind, j: usize) {
-        if source.core < 4 && j < 4 && cell < 256 {
+        if in_range(source, j, cell) {
             let told = self.told_by(source, cell, kind);
-            self.known[j] = self.known[j].max(told);
+            let row = self.known.row(j).max(told);
+            self.known.set(j, row);
         }
     }
 
     fn note(&mut self, j: usize, cell: usize, kind: AccessKind) {
         if j < 4 && cell < 256 {
-            let row = self.known[j];
+            let row = self.known.row(j);
             self.cells[cell] = self.cells[cell].noted(j, kind, row);
         }
     }

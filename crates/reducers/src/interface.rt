@@ -1,6 +1,8 @@
 ghost use Rattle.std.specs.Prelude.{◌≡◌, ◌&&◌, MatchBool};
 ghost use Rattle.reducers.specs.Numbers.{Numbers, zeros, ◌⊑◌, core?, cell?, knows, taken, noted};
 
+use records::format::Source;
+
 // Whether an access stores to its cell; an exchange counts as a write.
 #[derive(Clone, Copy)]
 pub enum AccessKind {
@@ -8,11 +10,11 @@ pub enum AccessKind {
     Write,
 }
 
-// Instruction `count` of core `core`.
-#[derive(Clone, Copy)]
-pub struct Source {
-    pub core: u8,
-    pub count: u16,
+// Whether these are cores below 4 and a cell below 256.
+pub fn in_range(source: Source, j: usize, cell: usize) -> bool
+    ensures { result ≡ (core? source.core && (core? j && cell? cell)) }
+{
+    source.core < 4 && j < 4 && cell < 256
 }
 
 // Judges which orderings are already known. Its meaning is its numbers; a call with a core from 4 or a cell from 256 on

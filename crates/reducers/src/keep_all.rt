@@ -2,7 +2,8 @@ ghost use Rattle.std.specs.Prelude.{◌≡◌};
 ghost use Rattle.reducers.specs.Numbers.{zeros};
 ghost use borrow.Author.Rules.{of_blocks};
 
-use crate::interface::{AccessKind, Reducer, Source};
+use crate::interface::{AccessKind, Reducer};
+use records::format::Source;
 
 // Knows nothing, so that every candidate is logged.
 #[derive(Clone, Copy)]

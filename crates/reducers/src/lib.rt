@@ -4,6 +4,7 @@
 pub mod exact;
 pub mod interface;
 pub mod keep_all;
+mod known;
 pub mod laws;
 pub mod pairwise;
 mod rows;

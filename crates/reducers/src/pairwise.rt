@@ -3,21 +3,23 @@ ghost use Rattle.reducers.specs.Numbers.{zeros};
 ghost use Rattle.reducers.specs.Rows.{pairwise_numbers, KnownOnly};
 ghost use borrow.Author.Rules.{of_blocks};
 
-use crate::interface::{AccessKind, Reducer, Source};
-use crate::rows::Row;
+use crate::interface::{AccessKind, Reducer, in_range};
+use crate::known::Known;
+use records::format::Source;
 
 // Knows the largest source count taken from each core to each other.
 #[derive(Drop)]
 pub struct Pairwise {
-    known: [Row; 4],
+    known: Known,
 }
 
 impl Pairwise {
     pub fn new() -> Pairwise
         ensures { pairwise_numbers result ≡ zeros }
     {
-        let row = Row { at: [0; 4] };
-        Pairwise { known: [row; 4] }
+        Pairwise {
+            known: Known::new(),
+        }
     }
 }
 
@@ -33,15 +35,15 @@ impl Reducer for Pairwise {
     }
 
     fn question(&self, source: Source, j: usize) -> bool {
-        source.core < 4 && j < 4 && source.count <= self.known[j].number(source.core as usize)
+        self.known.knows(source, j)
     }
 
     fn take(&mut self, source: Source, cell: usize, kind: AccessKind, j: usize) {
-        if source.core < 4 && j < 4 && cell < 256 {
-            let row = self.known[j];
-            let i = source.core as usize;
+        if in_range(source, j, cell) {
+            let row = self.known.row(j);
+            let i = usize::from(source.core);
             let most = row.number(i).max(source.count);
-            self.known[j] = row.with(i, most);
+            self.known.set(j, row.with(i, most));
         }
     }
 

@@ -3,7 +3,7 @@
 
 #[cfg(test)]
 mod tests {
-    use cores::interface::Request;
+    use cores::interface::{Request, StartingCore};
     use cores::script::ScriptCore;
     use recorder::recording::Recorder;
     use records::faults::{ByteFault, Location, RecordFault, Refusal, SessionFault};

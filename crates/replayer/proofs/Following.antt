@@ -1,18 +1,18 @@
 -- An accepted opening follows its logs, a step reads exactly the arcs to its core's next instruction, and steps and runs follow on.
-use Rattle.std.proofs.Common.{◌≡◌, ℕ, zero, suc, ◌+◌, ◌*◌, ◌<◌, ◌≤◌, Bool, true, false, cond, eqb, ltb, leb, List, [], ◌∷◌, ◌++◌, map, length, get_or, drop, set, None, Ok, Err, Result, sym, refl, ap, ◌∙◌, subst, inl, inr, arith}
-use Rattle.std.proofs.lemmas.List.{get_or-set_same, get_or-set_other, length-set, length-append, length-take}
+use Rattle.std.proofs.Common.{◌≡◌, ℕ, zero, suc, ◌+◌, ◌<◌, ◌≤◌, Bool, true, false, cond, eqb, ltb, leb, List, [], ◌∷◌, length, get_or, set, None, Ok, Err, Result, sym, refl, ap, ◌∙◌, subst, inl, inr, arith}
+use Rattle.std.proofs.lemmas.List.{get_or-set_same, get_or-set_other, length-set}
 use Rattle.std.proofs.lemmas.Bool.{lt-leb, lt-ltb, and_from, and_parts, cond-true, cond-false, cases_eq}
-use Rattle.std.proofs.lemmas.Bool.Decides.{nat_tests}
 use Rattle.cores.specs.declared.interface.Request.{Request}
 use Rattle.records.specs.declared.reading.SavedPlace.{SavedPlace}
 use Rattle.records.specs.declared.settings.Heading.{Heading}
 use Rattle.records.specs.declared.settings.Sizes.{Sizes}
 use Rattle.records.specs.Faults.{Fault, bad_setting}
-use Rattle.records.specs.Format.{LogArc, arc, end, written}
+use Rattle.records.specs.Format.{LogArc}
 use Rattle.records.specs.Settings.{fits, log_of, heading_of, settled}
-use Rattle.logs.specs.Lawful.{Lawful, whole, Holds, Accepted}
-use Rattle.logs.specs.Session.{no_counts, session}
-use Rattle.logs.proofs.Sessions.{few_cores}
+use Rattle.logs.specs.Lawful.{Lawful, Accepted}
+use Rattle.logs.specs.Session.{session}
+use Rattle.logs.proofs.Rules.{all_alike}
+use Rattle.logs.proofs.Sessions.{few_cores, few_arcs}
 use Rattle.replayer.specs.declared.group.Group.{Group}
 use Rattle.replayer.specs.declared.replay.Replayer.{Replayer}
 use Rattle.replayer.specs.Following.{past_all, arcs_upto, place_behind, Follows, OpeningFollows, StepReads, StepWaits, StepsFollow, RunsFollow}
@@ -21,18 +21,6 @@ use Rattle.replayer.specs.Runs.{left, Session, session as going, one, circled, a
 use Rattle.replayer.specs.Steps.{behind_head, started, Opened, found, advanced, passed, cleared, gone, stepped}
 use Rattle.replayer.proofs.Standing.{log_reads}
 use Rattle.replayer.proofs.Ways.{any_step}
-
-small_logs : (bytes : ℕ) (z : Sizes) → fits bytes z ≡ true → z.log_bytes ≤ 16384
-small_logs bytes z t = grind (arith, nat_tests)
-
--- a log has fewer arcs than bytes, so no more than its end record can say
-long : (arcs : List LogArc) (n k : ℕ) → length arcs < length (written (map arc arcs ++ (end n k ∷ [])))
-long [] n k = omega arith
-long (a ∷ more) n k = omega (arith, long more n k)
-
-few_arcs : (store : List ℕ) (z : Sizes) → fits (length store) z ≡ true → (j : ℕ) (arcs : List LogArc) (n : ℕ) → Holds (heading_of z j) (log_of store z j) arcs n → length arcs ≤ 65535
-few_arcs store z t j arcs n o =
-    omega (arith, small_logs (length store) z t, length-take z.log_bytes (drop (j * z.log_bytes) store), ap length o.bytes, length-append (written (whole (heading_of z j) arcs n)) o.rest, long arcs n (length arcs))
 
 pub step_reads : StepReads
 unfolding read_group
@@ -130,20 +118,6 @@ runs_follow next after text R cells states store arcs F = go (settled R.sizes (l
     go false = F
 
 -- at the opening
-none_done : (j : ℕ) → ◌≡◌ {A = ℕ} (get_or no_counts j 0) 0
-none_done zero = refl
-none_done (suc zero) = refl
-none_done (suc (suc zero)) = refl
-none_done (suc (suc (suc zero))) = refl
-none_done (suc (suc (suc (suc j)))) = refl
-
-first_places : (j : ℕ) → get_or (behind_head ∷ behind_head ∷ behind_head ∷ behind_head ∷ []) j behind_head ≡ behind_head
-first_places zero = refl
-first_places (suc zero) = refl
-first_places (suc (suc zero)) = refl
-first_places (suc (suc (suc zero))) = refl
-first_places (suc (suc (suc (suc j)))) = refl
-
 upto_zero : (g : Heading) (arcs : List LogArc) → Lawful g arcs → arcs_upto 0 arcs ≡ []
 upto_zero g [] l = refl
 upto_zero g (a ∷ more) l = cond-false (leb a.target 0) (a ∷ arcs_upto 0 more) (arcs_upto 0 more) (lt-leb a.target 0 l.0.to) ∙ upto_zero g more l.2
@@ -154,8 +128,8 @@ started_follows store z counts w t = record {
   holds = w.holds;
   sources = w.sources;
   places = λ j h.
-      first_places j ∙ sym (ap (λ d. place_behind d (w.arcs j)) (none_done j) ∙ ap (past_all behind_head) (upto_zero (heading_of z j) (w.arcs j) (w.holds j h).lawful));
-  done = λ j. omega (arith, none_done j);
+      all_alike 4 j behind_head ∙ sym (ap (λ d. place_behind d (w.arcs j)) (all_alike 4 j 0) ∙ ap (past_all behind_head) (upto_zero (heading_of z j) (w.arcs j) (w.holds j h).lawful));
+  done = λ j. omega (arith, all_alike {X = ℕ} 4 j 0);
   four = refl;
   places_four = refl;
 }
@@ -168,5 +142,5 @@ opening_follows R z cores cells store = go (settled z cores cells (length store)
   where
     go : (b : Bool) → settled z cores cells (length store) ≡ b → (x : Result (List ℕ) Fault) → Good store z (cond b (found R z x) (record { says = bad_setting; replayer = R }))
     go true t (Ok counts) e w = started_follows store z counts w (and_parts (fits (length store) z) _ t).0
-    go true t (Err f) e w = let c : ◌≡◌ {A = ℕ} 9 0 = cc in absurd (omega arith)
-    go false t x e w = let c : ◌≡◌ {A = ℕ} 8 0 = cc in absurd (omega arith)
+    go true t (Err f) e w = absurd cc
+    go false t x e w = absurd cc

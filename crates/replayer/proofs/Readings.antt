@@ -12,7 +12,7 @@ use Rattle.records.specs.Format.{LogArc, head, arc, end}
 use Rattle.records.specs.Reading.{Sight, View, view, held, resumed, reader_at, reader_as}
 use Rattle.records.specs.Settings.{fits, log_of, heading_of}
 use Rattle.records.proofs.Looking.{held_fits}
-use Rattle.replayer.specs.declared.group.Source.{Source}
+use Rattle.records.specs.declared.format.Source.{Source}
 use Rattle.replayer.specs.declared.group.Group.{Group}
 use Rattle.replayer.specs.Groups.{ArcSight, arc_of, arc_seen, at_place, Grouped, none_at, joined, picked, group, group_at, is_done, source_of, waits_for, or_else, first_source, held_up, read_group}
 
@@ -26,12 +26,12 @@ arc_there : (at : ℕ) (x : Sight) (a : LogArc) (p : SavedPlace) → arc_of at x
 arc_there at (Ok (Some (arc b, Among last latest m))) a p q =
     let v : ◌≡◌ {A = LogArc × SavedPlace} (b, record { offset = at + 7; last = last; latest = latest; arcs = m }) (a, p) = cc in
     record { state = Among last latest m; seen = ap (λ w. Ok (Some (arc w.0, Among last latest m))) v; offset = sym (ap (λ w. w.1.offset) v) }
-arc_there at (Ok (Some (arc b, Before))) a p q = let z : ◌≡◌ {A = ℕ} 0 1 = cc in absurd (omega arith)
-arc_there at (Ok (Some (arc b, After n))) a p q = let z : ◌≡◌ {A = ℕ} 0 1 = cc in absurd (omega arith)
-arc_there at (Ok (Some (head _ _ _, t))) a p q = let z : ◌≡◌ {A = ℕ} 0 1 = cc in absurd (omega arith)
-arc_there at (Ok (Some (end _ _, t))) a p q = let z : ◌≡◌ {A = ℕ} 0 1 = cc in absurd (omega arith)
-arc_there at (Ok None) a p q = let z : ◌≡◌ {A = ℕ} 0 1 = cc in absurd (omega arith)
-arc_there at (Err f) a p q = let z : ◌≡◌ {A = ℕ} 0 1 = cc in absurd (omega arith)
+arc_there at (Ok (Some (arc b, Before))) a p q = absurd cc
+arc_there at (Ok (Some (arc b, After n))) a p q = absurd cc
+arc_there at (Ok (Some (head _ _ _, t))) a p q = absurd cc
+arc_there at (Ok (Some (end _ _, t))) a p q = absurd cc
+arc_there at (Ok None) a p q = absurd cc
+arc_there at (Err f) a p q = absurd cc
 
 pub arc_fits : (counts : List ℕ) (v : View) (a : LogArc) (p : SavedPlace) → arc_seen counts v ≡ Ok (Some (a, p)) → (p.offset ≡ v.cursor + 7) × (7 ≤ length v.log - v.cursor)
 arc_fits counts v a p q =
@@ -118,10 +118,10 @@ reading_starts counts g log done target p = record { fuel = suc (length log); en
 module _ (store : List ℕ) (z : Sizes) (j : ℕ) (p : SavedPlace) where
   resumed_if : (b : Bool) (v w : View) → Ok v ≡ cond b (Ok w) (Err bad_setting) → (b ≡ true) × (v ≡ w)
   resumed_if true v w q = (refl, cc)
-  resumed_if false v w q = let z : ◌≡◌ {A = ℕ} 0 1 = cc in absurd (omega arith)
+  resumed_if false v w q = absurd cc
 
   pub refused_if : (b : Bool) (says : List ℕ) (v : View) (x : Result Group (List ℕ)) → Err says ≡ cond b (Ok v) (Err bad_setting) → Err says ≡ cond b x (Err bad_setting)
-  refused_if true says v x q = let z : ◌≡◌ {A = ℕ} 0 1 = cc in absurd (omega arith)
+  refused_if true says v x q = absurd cc
   refused_if false says v x q = cc
 
   abbrev here : View

@@ -1,6 +1,10 @@
 -- Circles of steps, one after another: each but the last carries out an instruction that is left.
-use Rattle.std.proofs.Common.{◌≡◌, ℕ, zero, suc, ◌+◌, ◌-◌, ◌<◌, ◌≤◌, true, false, eqb, ◌≢◌, List, length, get_or, set, Ok, Err, Result, sym, refl, ap, ◌∙◌, subst, inl, inr, arith}
+use Rattle.std.proofs.Common.{◌≡◌, ℕ, zero, suc, ◌+◌, ◌-◌, ◌<◌, ◌≤◌, true, false, cond, eqb, ◌≢◌, List, [], ◌∷◌, length, get_or, take, set, Ok, Err, Result, sym, refl, ap, ◌∙◌, subst, inl, inr, arith}
+use Rattle.std.specs.List.{zip, sum_by}
+use Rattle.std.specs.Result.{is_ok}
 use Rattle.std.proofs.lemmas.Bool.{eq-eqb, ne_eqb, cond-true, cond-false, and_parts, cases_eq}
+use Rattle.std.proofs.Math.Seq.{take-nil}
+use Rattle.std.proofs.lemmas.List.Sums.{sum_by-cons}
 use Rattle.std.proofs.lemmas.List.{get_or-set_same, get_or-set_other, length-set}
 use Rattle.cores.specs.declared.interface.Request.{Request}
 use Rattle.records.specs.declared.reading.SavedPlace.{SavedPlace}
@@ -17,27 +21,34 @@ use Rattle.replayer.specs.Runs.{left_at, left_from, left, Session, session, coun
 use Rattle.replayer.specs.Steps.{Outcome, advanced, stepped}
 use Rattle.replayer.proofs.Ways.{any_step}
 
--- what is left, core by core
-module _ (R : Replayer) (P j : ℕ) where
-  pub left_more : j < P → left_from R (P - j) j ≡ left_at R j + left_from R (P - (j + 1)) (j + 1)
-  left_more h = let k : P - j ≡ suc (P - (j + 1)) = omega arith in ap (λ n. left_from R n j) k
+-- what is left, added up along the lists of counts and done counts
+left_sum_from : (R : Replayer) (k j : ℕ) (counts done : List ℕ) → length counts ≡ length done → ((i : ℕ) → left_at R (j + i) ≡ get_or counts i 0 - get_or done i 0) →
+    sum_by (λ p. p.0 - p.1) (take k (zip counts done)) ≡ left_from R k j
+left_sum_from R zero j counts done e h = refl
+left_sum_from R (suc k) j [] [] e h =
+    let here : left_at R j ≡ 0 = ap (left_at R) (omega arith) ∙ h 0 in
+    let none : sum_by {X = ℕ × ℕ} (λ p. p.0 - p.1) (take k []) ≡ 0 = ap (sum_by (λ p. p.0 - p.1)) (take-nil k) in
+    omega (arith, here, none, left_sum_from R k (j + 1) [] [] refl (λ i. ap (left_at R) (omega arith) ∙ h (suc i)))
+left_sum_from R (suc k) j [] (d ∷ done) e h = absurd (omega (arith, e))
+left_sum_from R (suc k) j (c ∷ counts) [] e h = absurd (omega (arith, e))
+left_sum_from R (suc k) j (c ∷ counts) (d ∷ done) e h =
+    let here : left_at R j ≡ c - d = ap (left_at R) (omega arith) ∙ h 0 in
+    omega (arith, here, sum_by-cons (λ p. p.0 - p.1) (c, d) (take k (zip counts done)), left_sum_from R k (j + 1) counts done (omega (arith, e)) (λ i. ap (left_at R) (omega arith) ∙ h (suc i)))
 
-  pub left_none : P ≤ j → left_from R (P - j) j ≡ 0
-  left_none h = let k : P - j ≡ 0 = omega arith in ap (λ n. left_from R n j) k
+pub left_sum : (R : Replayer) → length R.counts ≡ length R.done → sum_by (λ p. p.0 - p.1) (take R.sizes.cores (zip R.counts R.done)) ≡ left R
+unfolding left
+left_sum R e = left_sum_from R R.sizes.cores 0 R.counts R.done e (λ i. ap (left_at R) (omega arith))
 
 -- a step's answer is counted exactly where it was carried out
-pub counted_done : (r : Result Done StepRefusal) (done : Done) → r ≡ Ok done → counted (step_numbers r) ≡ 1
-counted_done r done e = rw e
-
-pub counted_refused : (r : Result Done StepRefusal) → ((done : Done) → r ≡ Ok done → ⊥) → counted (step_numbers r) ≡ 0
-counted_refused (Ok done) never = absurd (never done refl)
-counted_refused (Err NoSuchCore) never = refl
-counted_refused (Err Halted) never = refl
-counted_refused (Err NoSuchCell) never = refl
-counted_refused (Err (Waits source)) never = refl
-counted_refused (Err Replayed) never = refl
-counted_refused (Err BadSetting) never = refl
-counted_refused (Err (LogFault e)) never = refl
+pub counted_step : (r : Result Done StepRefusal) → counted (step_numbers r) ≡ cond (is_ok r) 1 0
+counted_step (Ok done) = refl
+counted_step (Err NoSuchCore) = refl
+counted_step (Err Halted) = refl
+counted_step (Err NoSuchCell) = refl
+counted_step (Err (Waits source)) = refl
+counted_step (Err Replayed) = refl
+counted_step (Err BadSetting) = refl
+counted_step (Err (LogFault e)) = refl
 
 module _ (next : List ℕ → List ℕ → Request) (after : List ℕ → List ℕ → ℕ → List ℕ) (text store : List ℕ) (P j : ℕ) (s : Session) where
   pub circled_more : j < P → (o : Outcome) → o ≡ stepped next after text s.replayer s.cells s.states store j →
@@ -106,6 +117,13 @@ module _ (next : List ℕ → List ℕ → Request) (after : List ℕ → List �
         sizes = refl;
         four = length-set R.done j (get_or R.done j 0 + 1) ∙ four;
       })
+
+  -- a step is carried out only in a session of at most four cores
+  pub step_few : (R : Replayer) (cells : List ℕ) (states : List (List ℕ)) (j : ℕ) → counted (stepped next after text R cells states store j).says ≡ 1 → R.sizes.cores ≤ 4
+  step_few R cells states j =
+      any_step next after text R cells states store j (λ o. counted o.says ≡ 1 → R.sizes.cores ≤ 4)
+      (λ says q e. absurd (omega (arith, q, e)))
+      (λ G w e. settled_few R.sizes (length states) (length cells) (length store) w.clear.ready)
 
   circled_moves : (R : Replayer) (k j : ℕ) (s : Session) → Moves R s.replayer s.carried →
       Moves R (circled next after text store k j s).replayer (circled next after text store k j s).carried

@@ -74,7 +74,7 @@ module _ (counts : List ℕ) (g : Heading) (log : List ℕ) (n k : ℕ) where
 
   follows_is : (b : Bool) (s t : State) (f : Fault) → cond b (Ok s) (Err f) ≡ Ok t → t ≡ s
   follows_is true s t f q = cc
-  follows_is false s t f q = let z : ◌≡◌ {A = ℕ} 0 1 = cc in absurd (omega arith)
+  follows_is false s t f q = absurd cc
 
   module _ (p : SavedPlace) (a : LogArc) (more : List LogArc) (S : Standing p (a ∷ more)) where
     behind_is : S.seen.0 ≡ resumed (past p a)

@@ -12,11 +12,10 @@ use Rattle.records.specs.declared.reading.SavedPlace.{SavedPlace}
 use Rattle.records.specs.declared.settings.Sizes.{Sizes}
 use Rattle.records.specs.Faults.{bad_setting, refusal}
 use Rattle.records.specs.Settings.{fits, settled}
-use Rattle.logs.proofs.Sessions.{few_cores}
 use Rattle.replayer.specs.declared.answers.StepRefusal.{StepRefusal}
 use Rattle.replayer.specs.declared.answers.StepRefusal.TheVariants.{NoSuchCore, Halted, NoSuchCell, Waits, Replayed, BadSetting, LogFault}
 use Rattle.replayer.specs.declared.group.Group.{Group}
-use Rattle.replayer.specs.declared.group.Source.{Source}
+use Rattle.records.specs.declared.format.Source.{Source}
 use Rattle.replayer.specs.declared.replay.Replayer.{Replayer}
 use Rattle.replayer.specs.Answers.{step_refusal_from, step_refusal, wait_numbers, done_numbers}
 use Rattle.replayer.specs.Groups.{read_group}
@@ -87,16 +86,8 @@ module _ (R : Replayer) (cores cells : ℕ) (store : List ℕ) (j : ℕ) where
           pub free : G.waits ≡ None → Ok G.place ≡ verdict
           free h = ap (λ w. freed w G.place) (sym h) ∙ goes (Ok G) read
 
-        pub may_go : MayGo R cores j
-        may_go = record {
-          known = known;
-          few = few_cores (length store) R.sizes (and_parts (fits (length store) R.sizes) _ (sym ready)).0;
-          enough = settled_cores R.sizes cores cells (length store) (sym ready);
-          more = more;
-        }
-
 -- what bars a core is what the step says
-pub barred_out : (R : Replayer) (cores cells : ℕ) (store : List ℕ) (j : ℕ) (e : StepRefusal) → Bars (Some e) R cores cells (length store) j →
+pub barred_out : (R : Replayer) (cores cells : ℕ) (store : List ℕ) (j : ℕ) (e : StepRefusal) → Bars (Err e) R cores cells (length store) j →
     Err (step_refusal e) ≡ cleared R cores cells store j
 barred_out R cores cells store j BadSetting h = unsettled R cores cells store j h
 barred_out R cores cells store j NoSuchCore h = no_core R cores cells store j h.0 h.1
@@ -128,11 +119,6 @@ module _
     module _ (behind : SavedPlace) (clear : Ok behind ≡ cleared R (length cores) (length cells) store j) (may : MayGo R (length cores) j) where
       there : ltb j (length (map state cores)) ≡ true
       there = ap (ltb j) (length-map cores state) ∙ lt-ltb j (length cores) (omega (arith, may.known, may.enough))
-
-      pub asks : None ≡ requested next text (map state cores) j → ⊥
-      asks q =
-          let z : None ≡ Some (next text (get_or (map state cores) j [])) = q ∙ cond-true (ltb j (length (map state cores))) _ _ there in
-          let z : ◌≡◌ {A = ℕ} 0 1 = cc in omega arith
 
       module _ (request : Request) (ask : Some request ≡ requested next text (map state cores) j) where
         carries : asked next after text R cells (map state cores) j behind request ≡ turn

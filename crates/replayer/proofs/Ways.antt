@@ -1,5 +1,5 @@
 -- What holds of every refusal and of a step that is carried out holds of any step.
-use Rattle.std.proofs.Common.{◌≡◌, ℕ, ◌+◌, ◌<◌, Bool, true, false, cond, ◌&&◌, ltb, leb, List, [], ◌∷◌, length, get_or, Some, None, Ok, Err, Option, Result, refl, ap, arith}
+use Rattle.std.proofs.Common.{◌≡◌, ℕ, ◌+◌, ◌<◌, Bool, true, false, cond, ◌&&◌, ltb, leb, List, [], ◌∷◌, length, get_or, Some, None, Ok, Err, Option, Result, refl, ap}
 use Rattle.std.proofs.lemmas.Bool.{leb-false}
 use Rattle.cores.specs.declared.interface.Request.{Request}
 use Rattle.cores.specs.Acting.{within}
@@ -9,7 +9,7 @@ use Rattle.records.specs.declared.settings.Sizes.{Sizes}
 use Rattle.records.specs.Faults.{Fault, bad_setting, log_fault}
 use Rattle.records.specs.Settings.{fits, log_of, heading_of, settled}
 use Rattle.replayer.specs.declared.group.Group.{Group}
-use Rattle.replayer.specs.declared.group.Source.{Source}
+use Rattle.records.specs.declared.format.Source.{Source}
 use Rattle.replayer.specs.declared.replay.Replayer.{Replayer}
 use Rattle.replayer.specs.Groups.{Grouped, group_at, held_up, read_group}
 use Rattle.replayer.specs.Runs.{counted}
@@ -17,7 +17,7 @@ use Rattle.replayer.specs.Steps.{Outcome, ahead, freed, passed, cleared, refused
 
 -- reading is refused with 8 or 9
 held_refuses : (done : List ℕ) (x : Result Grouped Fault) (says : List ℕ) → Err says ≡ held_up done None x → counted says ≡ 0
-held_refuses done (Ok x) says q = let z : ◌≡◌ {A = ℕ} 0 1 = cc in absurd (omega arith)
+held_refuses done (Ok x) says q = absurd cc
 held_refuses done (Err f) says q = let p : says ≡ log_fault f = cc in ap counted p
 
 read_refuses : (store : List ℕ) (z : Sizes) (j : ℕ) (p : SavedPlace) (counts done says : List ℕ) → Err says ≡ read_group store z j p counts done → counted says ≡ 0

@@ -10,7 +10,7 @@ use Rattle.replayer.specs.declared.answers.Ended.{Ended}
 use Rattle.replayer.specs.declared.answers.Ended.TheVariants.{Finished, Stopped}
 use Rattle.replayer.specs.declared.answers.StepRefusal.{StepRefusal}
 use Rattle.replayer.specs.declared.answers.StepRefusal.TheVariants.{NoSuchCore, Halted, NoSuchCell, Waits, Replayed, BadSetting, LogFault}
-use Rattle.replayer.specs.declared.group.Source.{Source}
+use Rattle.records.specs.declared.format.Source.{Source}
 
 -- a refusal of a reader, as one of a step
 abbrev pub step_refusal_from : Refusal → StepRefusal

@@ -9,7 +9,7 @@ use Rattle.records.specs.Faults.{Fault, session_fault, bad_setting, log_fault, r
 use Rattle.records.specs.Format.{LogArc, head, arc, end, bytes_of}
 use Rattle.records.specs.Reading.{Sight, View, held, place_in, resumed}
 use Rattle.records.specs.Settings.{fits, log_of, heading_of}
-use Rattle.replayer.specs.declared.group.Source.{Source}
+use Rattle.records.specs.declared.format.Source.{Source}
 use Rattle.replayer.specs.declared.group.Group.{Group}
 use Rattle.replayer.specs.declared.group.ArcRead.{ArcRead}
 
@@ -96,7 +96,7 @@ read_group store z j p counts done =
 
 -- what the calls answer, by the meaning of the code's arcs, faults and refusals
 abbrev pub log_arc : ArcRead → LogArc
-log_arc x = record { source = x.source.core; count = x.source.count; target = x.target }
+log_arc x = record { source = x.arc.source.core; count = x.arc.source.count; target = x.arc.target }
 
 abbrev pub arc_as : Result (Option ArcRead) SessionFault → ArcSight
 arc_as (Ok (Some x)) = Ok (Some (log_arc x, x.behind))

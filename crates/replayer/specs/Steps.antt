@@ -13,7 +13,7 @@ use Rattle.replayer.specs.declared.answers.Done.{Done}
 use Rattle.replayer.specs.declared.answers.StepRefusal.{StepRefusal}
 use Rattle.replayer.specs.declared.answers.StepRefusal.TheVariants.{NoSuchCore, Halted, NoSuchCell, Waits, Replayed, BadSetting, LogFault}
 use Rattle.replayer.specs.declared.group.Group.{Group}
-use Rattle.replayer.specs.declared.group.Source.{Source}
+use Rattle.records.specs.declared.format.Source.{Source}
 use Rattle.replayer.specs.declared.replay.Replayer.{Replayer}
 use Rattle.replayer.specs.Answers.{step_refusal, wait_numbers, done_numbers}
 use Rattle.replayer.specs.Groups.{read_group}
@@ -71,15 +71,15 @@ passed (Ok g) = freed g.waits g.place
 passed (Err says) = Err says
 
 -- bad setting, no such core, all of it replayed, in this order, or none of them
-abbrev pub Bars : Option StepRefusal → Replayer → ℕ → ℕ → ℕ → ℕ → Type 0
-Bars None R cores cells bytes j = (true ≡ settled R.sizes cores cells bytes) × (j < R.sizes.cores) × (slice_index R.done j < slice_index R.counts j)
-Bars (Some BadSetting) R cores cells bytes j = false ≡ settled R.sizes cores cells bytes
-Bars (Some NoSuchCore) R cores cells bytes j = (true ≡ settled R.sizes cores cells bytes) × (R.sizes.cores ≤ j)
-Bars (Some Replayed) R cores cells bytes j = (true ≡ settled R.sizes cores cells bytes) × (j < R.sizes.cores) × (slice_index R.counts j ≤ slice_index R.done j)
-Bars (Some Halted) R cores cells bytes j = ⊥
-Bars (Some NoSuchCell) R cores cells bytes j = ⊥
-Bars (Some (Waits s)) R cores cells bytes j = ⊥
-Bars (Some (LogFault f)) R cores cells bytes j = ⊥
+abbrev pub Bars : Result (Unit {0}) StepRefusal → Replayer → ℕ → ℕ → ℕ → ℕ → Type 0
+Bars (Ok _) R cores cells bytes j = (true ≡ settled R.sizes cores cells bytes) × (j < R.sizes.cores) × (slice_index R.done j < slice_index R.counts j)
+Bars (Err BadSetting) R cores cells bytes j = false ≡ settled R.sizes cores cells bytes
+Bars (Err NoSuchCore) R cores cells bytes j = (true ≡ settled R.sizes cores cells bytes) × (R.sizes.cores ≤ j)
+Bars (Err Replayed) R cores cells bytes j = (true ≡ settled R.sizes cores cells bytes) × (j < R.sizes.cores) × (slice_index R.counts j ≤ slice_index R.done j)
+Bars (Err Halted) R cores cells bytes j = ⊥
+Bars (Err NoSuchCell) R cores cells bytes j = ⊥
+Bars (Err (Waits s)) R cores cells bytes j = ⊥
+Bars (Err (LogFault f)) R cores cells bytes j = ⊥
 
 -- core j may go on, behind the arcs to its next instruction, or why not
 unfoldable pub cleared : Replayer → ℕ → ℕ → List ℕ → ℕ → Result SavedPlace (List ℕ)

@@ -1,9 +1,9 @@
 ghost use Rattle.std.specs.Prelude.{◌≡◌};
 ghost use Rattle.replayer.specs.Answers.{step_refusal_from};
 
-use crate::group::Source;
 use cores::interface::Request;
 use records::faults::{Refusal, SessionFault};
+use records::format::Source;
 
 // An instruction that was carried out: what it asked, as its core's how manyth, and the number that it brought.
 #[derive(Clone, Copy)]

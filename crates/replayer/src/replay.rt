@@ -3,7 +3,7 @@ ghost use Rattle.logs.specs.Lawful.{Accepted};
 ghost use Rattle.logs.specs.Session.{no_counts, done_as};
 ghost use Rattle.records.specs.Settings.{no_sizes, SurplusKept};
 ghost use Rattle.replayer.specs.Answers.{step_numbers, run_numbers};
-ghost use Rattle.replayer.specs.Steps.{behind_head, started, reopened, advanced, Bars, cleared, cleared_as, Clears, stepped, StepKept};
+ghost use Rattle.replayer.specs.Steps.{started, reopened, advanced, Bars, cleared, cleared_as, Clears, stepped, StepKept};
 ghost use Rattle.replayer.specs.Runs.{left, session, circled, ran};
 
 use crate::answers::{Done, Ended, StepRefusal};
@@ -26,16 +26,12 @@ pub struct Replayer {
 }
 
 // The place behind a log's head.
-fn behind_head() -> SavedPlace
-    ensures { result ≡ behind_head }
-{
-    SavedPlace {
-        offset: 6,
-        last: 0,
-        latest: [0; 4],
-        arcs: 0,
-    }
-}
+const BEHIND_HEAD: SavedPlace = SavedPlace {
+    offset: 6,
+    last: 0,
+    latest: [0; 4],
+    arcs: 0,
+};
 
 // A replay with nothing done.
 fn start(sizes: Sizes, counts: [u16; 4]) -> Replayer
@@ -45,7 +41,7 @@ fn start(sizes: Sizes, counts: [u16; 4]) -> Replayer
         sizes,
         counts,
         done: [0; 4],
-        places: [behind_head(); 4],
+        places: [BEHIND_HEAD; 4],
     }
 }
 
@@ -83,20 +79,26 @@ impl Replayer {
         Ok(())
     }
 
-    // Why core `j` has no step to make, whatever its log says.
-    fn bars(&self, cores: usize, cells: usize, store_bytes: usize, j: usize) -> Option<StepRefusal>
+    // Refuses where core `j` has no step to make, whatever its log says.
+    fn bars(
+        &self,
+        cores: usize,
+        cells: usize,
+        store_bytes: usize,
+        j: usize,
+    ) -> Result<(), StepRefusal>
         ensures { Bars result self.now cores cells store_bytes j }
     {
         if !buffers_hold(self.sizes, cores, cells, store_bytes) {
-            return Some(StepRefusal::BadSetting);
+            return Err(StepRefusal::BadSetting);
         }
         if j >= self.sizes.cores {
-            return Some(StepRefusal::NoSuchCore);
+            return Err(StepRefusal::NoSuchCore);
         }
         if self.done[j] >= self.counts[j] {
-            return Some(StepRefusal::Replayed);
+            return Err(StepRefusal::Replayed);
         }
-        None
+        Ok(())
     }
 
     // The place behind the arcs to the next instruction of core `j`, if it may go on.
@@ -110,9 +112,7 @@ impl Replayer {
         ensures outcome { cleared_as result ≡ cleared self.now cores cells store.now j }
         ensures may { Clears result self.now cores j }
     {
-        if let Some(refusal) = self.bars(cores, cells, store.len(), j) {
-            return Err(refusal);
-        }
+        self.bars(cores, cells, store.len(), j)?;
         let place = self.places[j];
         let group = read_group(store, self.sizes, j, place, &self.counts, &self.done)?;
         match group.waits {
@@ -146,10 +146,8 @@ impl Replayer {
     {
         let behind = self.clear(cores.len(), cells.len(), store, j)?;
         // there are as many cores as the sizes say, so core `j` is one of them
-        let Some(request) = request_of(text, cores, j) else {
-            return Err(StepRefusal::NoSuchCore);
-        };
-        if let Request::Halt = request {
+        let request = request_of(text, cores, j).ok_or(StepRefusal::NoSuchCore)?;
+        if request == Request::Halt {
             return Err(StepRefusal::Halted);
         }
         if !cell_exists(request, self.sizes.cells) {
@@ -168,14 +166,14 @@ impl Replayer {
 
     // How many recorded instructions are left.
     fn left(&self) -> u32
-        requires { self.now.sizes.cores ≤ 4 }
         ensures { result ≡ left self.now }
     {
-        let mut total = 0;
-        for j in 0..self.sizes.cores {
-            total += self.counts[j].saturating_sub(self.done[j]) as u32;
-        }
-        total
+        self.counts
+            .iter()
+            .zip(&self.done)
+            .take(self.sizes.cores)
+            .map(|(count, done)| u32::from(count.saturating_sub(*done)))
+            .sum()
     }
 
     // One step of each core in order; how many were carried out.
@@ -186,14 +184,12 @@ impl Replayer {
         cells: &mut [u16],
         store: &[u8],
     ) -> u32
-        requires { self.old.sizes.cores ≤ 4 }
         ensures circled { session result self.new cells.new (map K.Core.state cores.new) ≡ circled K.Core.next K.Core.after text.now store.now self.old.sizes.cores 0 (session 0 self.old cells.old (map K.Core.state cores.old)) }
         ensures surplus { SurplusKept self.old.sizes cores.old cores.new cells.old cells.new }
     {
-        let count = self.sizes.cores;
         let mut carried = 0;
-        for j in 0..count {
-            if let Ok(_) = self.step(text, cores, cells, store, j) {
+        for j in 0..self.sizes.cores {
+            if self.step(text, cores, cells, store, j).is_ok() {
                 carried += 1;
             }
         }

@@ -18,7 +18,7 @@ use Rattle.replayer.specs.Groups.{waits_for}
 use Rattle.replayer.specs.Memories.{memory_of, rules_of, Alike, stays, turns}
 use Rattle.replayer.specs.Runs.{counted}
 use Rattle.replayer.specs.Steps.{Outcome, refused, acted, gone, freed, cleared, stepped}
-use Rattle.replayer.specs.declared.group.Source.{Source}
+use Rattle.records.specs.declared.format.Source.{Source}
 use Rattle.replayer.specs.declared.replay.Replayer.{Replayer}
 use Rattle.runs.specs.Recording.{Arc}
 use Rattle.runs.specs.Replay.{Progress, free, goes, step}

@@ -12,7 +12,7 @@ use Rattle.records.specs.declared.settings.Heading.{Heading}
 use Rattle.recordings.specs.Tracks.{to_log, logs_of}
 use Rattle.replayer.specs.Following.{arcs_to}
 use Rattle.replayer.specs.Groups.{waits_for}
-use Rattle.replayer.specs.declared.group.Source.{Source}
+use Rattle.records.specs.declared.format.Source.{Source}
 use Rattle.runs.proofs.Waiting.{own_log_is_enough}
 use Rattle.runs.proofs.WorkingOrder.{choose_yes, choose_no}
 use Rattle.runs.specs.Recording.{Arc, log}

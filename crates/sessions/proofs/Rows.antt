@@ -1,6 +1,6 @@
 -- Turns in a row, one by one, with the answers as they are put down.
-use Rattle.std.proofs.Common.{◌≡◌, ℕ, ◌+◌, ◌<◌, ◌≤◌, List, [], ◌∷◌, ◌++◌, map, reverse, length, get_or, take, Result, sym, ap, ◌∙◌, subst}
-use Rattle.std.proofs.lemmas.List.{take_more, take_all, reverse-append, map-append}
+use Rattle.std.proofs.Common.{◌≡◌, ℕ, ◌+◌, ◌<◌, List, [], ◌∷◌, ◌++◌, map, reverse, length, get_or, take, Result, sym, ap, ◌∙◌, subst}
+use Rattle.std.proofs.lemmas.List.{take_more, reverse-append, map-append}
 use Rattle.cores.specs.Memory.{Rules}
 use Rattle.recorder.specs.Turns.{World, answered, said, Turned}
 use Rattle.recorder.specs.declared.recording.Recorded.{Recorded}
@@ -25,6 +25,3 @@ module _ (meets : Meets) (K : Rules) (w : World) where
       ap (λ a. reverse (map said a)) e ∙ ap reverse (map-append said answers (r ∷ [])) ∙ reverse-append (map said answers) (said r ∷ []) in
       subst (λ ks. InARow meets K w ks (reverse (map said answers')) v') (sym turns)
       (subst (λ ss. InARow meets K w (j ∷ reverse (take i js)) ss v') (sym says) (then row j (answered (said r) v') t cells states store))
-
-  pub row_ends : (js : List ℕ) (i : ℕ) (answers : List (Result Recorded Refusal)) (v : World) → length js ≤ i → Row (take i js) answers v → Row js answers v
-  row_ends js i answers v past row = subst (λ ks. Row ks answers v) (take_all i js past) row

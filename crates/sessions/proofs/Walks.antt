@@ -1,6 +1,6 @@
 -- Steps one by one, with the answers as they are put down.
-use Rattle.std.proofs.Common.{◌≡◌, ℕ, ◌+◌, ◌<◌, ◌≤◌, List, [], ◌∷◌, ◌++◌, map, length, get_or, drop, Result, sym, ap, ◌∙◌, add-one, drop-cons}
-use Rattle.std.proofs.lemmas.List.{drop_all, map-append, append_assoc, append-nil}
+use Rattle.std.proofs.Common.{◌≡◌, ℕ, ◌+◌, ◌<◌, List, [], ◌∷◌, ◌++◌, map, length, get_or, drop, Result, sym, ap, ◌∙◌, add-one, drop-cons}
+use Rattle.std.proofs.lemmas.List.{map-append, append_assoc}
 use Rattle.cores.specs.declared.interface.Request.{Request}
 use Rattle.replayer.specs.Answers.{step_numbers}
 use Rattle.replayer.specs.Memories.{walked}
@@ -9,9 +9,7 @@ use Rattle.replayer.specs.Steps.{Outcome, stepped}
 use Rattle.replayer.specs.declared.answers.Done.{Done}
 use Rattle.replayer.specs.declared.answers.StepRefusal.{StepRefusal}
 use Rattle.replayer.specs.declared.replay.Replayer.{Replayer}
-use Rattle.replays.specs.Calls.{stage}
 use Rattle.replays.specs.Replies.{steps_said}
-use Rattle.sessions.specs.Replaying.{stage_of}
 
 module _ (next : List ℕ → List ℕ → Request) (after : List ℕ → List ℕ → ℕ → List ℕ) (text store : List ℕ) (s : Session) (js : List ℕ) where
   -- i of the steps were taken from s, and said these answers
@@ -19,14 +17,6 @@ module _ (next : List ℕ → List ℕ → Request) (after : List ℕ → List �
     pub carried : ℕ
     pub ends : walked next after text store s js ≡ walked next after text store (session carried R cells states) (drop i js)
     pub says : steps_said next after text store s js ≡ answers ++ steps_said next after text store (session carried R cells states) (drop i js)
-
-  pub starts : (answers : List (Result Done StepRefusal)) → answers ≡ [] → s.carried ≡ 0 → GoesOn 0 (map step_numbers answers) s.replayer s.cells s.states
-  starts answers e none = record {
-    carried = 0;
-    ends = ap (λ k. walked next after text store (session k s.replayer s.cells s.states) js) none;
-    says = ap (λ k. steps_said next after text store (session k s.replayer s.cells s.states) js) none
-        ∙ ap (λ a. map step_numbers a ++ steps_said next after text store (session 0 s.replayer s.cells s.states) js) (sym e);
-  }
 
   pub goes_on : (i : ℕ) (answers answers' : List (Result Done StepRefusal)) (r : Result Done StepRefusal) (R R' : Replayer) (cells cells' : List ℕ) (states states' : List (List ℕ)) → i < length js →
       GoesOn i (map step_numbers answers) R cells states →
@@ -48,12 +38,3 @@ module _ (next : List ℕ → List ℕ → Request) (after : List ℕ → List �
             ∙ sym (append_assoc (map step_numbers answers) (step_numbers r ∷ []) _)
             ∙ ap (λ a. a ++ steps_said next after text store (session c R' cells' states') (drop (i + 1) js)) (sym put);
       }
-
-  pub ends : (i : ℕ) (answers : List (List ℕ)) (R : Replayer) (cells : List ℕ) (states : List (List ℕ)) → length js ≤ i → GoesOn i answers R cells states →
-      (answers ≡ steps_said next after text store s js) × (stage R cells states ≡ stage_of (walked next after text store s js))
-  ends i answers R cells states past f =
-      let here = session f.carried R cells states in
-      let none : drop i js ≡ [] = drop_all i js past in (
-        sym (f.says ∙ ap (λ l. answers ++ steps_said next after text store here l) none ∙ append-nil answers),
-        sym (ap stage_of (f.ends ∙ ap (walked next after text store here) none)),
-      )

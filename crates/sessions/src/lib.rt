@@ -1,6 +1,4 @@
 // A whole session: turns are recorded, the logs opened again, and the replay stepped and run to its end.
 #![tactic(auto)]
 
-mod replaying;
 pub mod session;
-mod turning;

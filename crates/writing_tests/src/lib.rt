@@ -5,9 +5,9 @@
 mod tests {
     use logs::write_out::write_logs;
     use records::faults::Refusal;
-    use records::format::Record;
+    use records::format::{Arc, Record, Source};
     use records::reading::Reader;
-    use records::settings::Sizes;
+    use records::settings::{Heading, Sizes};
     use records::writing::write_record;
     use std::test::Fail;
 
@@ -38,16 +38,15 @@ mod tests {
             cells: 2,
             log_bytes: 25,
         };
-        let head = Record::Head {
+        let head = Record::Head(Heading {
             core: 1,
             cores: 3,
             cells: 2,
-        };
-        let arc = Record::Arc {
-            source: 0,
-            source_count: 1,
-            target_count: 1,
-        };
+        });
+        let arc = Record::Arc(Arc {
+            source: Source { core: 0, count: 1 },
+            target: 1,
+        });
         let end = Record::End {
             instructions: 2,
             arcs: 1,
@@ -87,11 +86,14 @@ mod tests {
             return Err(Fail::new("no reader"));
         };
         assert!(rt; reader.place().is_none(), "before the head");
-        assert!(rt; matches!(reader.next_record(), Ok(Some(Record::Head { .. }))));
+        assert!(rt; matches!(reader.next_record(), Ok(Some(Record::Head(_)))));
         assert!(rt;
             matches!(
                 reader.next_record(),
-                Ok(Some(Record::Arc { source: 2, .. }))
+                Ok(Some(Record::Arc(Arc {
+                    source: Source { core: 2, .. },
+                    ..
+                })))
             )
         );
         let Some(place) = reader.place() else {
@@ -101,7 +103,15 @@ mod tests {
         let Ok(mut again) = Reader::resume(&store, SIZES, 0, place) else {
             return Err(Fail::new("no reader"));
         };
-        assert!(rt; matches!(again.next_record(), Ok(Some(Record::Arc { source: 1, .. }))));
+        assert!(rt;
+            matches!(
+                again.next_record(),
+                Ok(Some(Record::Arc(Arc {
+                    source: Source { core: 1, .. },
+                    ..
+                })))
+            )
+        );
         assert!(rt;
             matches!(
                 again.next_record(),

@@ -5,7 +5,8 @@ use Rattle.bench_input.specs.Described.{described}
 use Rattle.bench_input.specs.Session.{session_of}
 use Rattle.bench_listing.specs.Lines.{text_of}
 use Rattle.bench_answer.specs.Answer.{answer_lines}
-use Rattle.bench_answer.proofs.Telling.{made_so, answers_session, answers_bad}
+use Rattle.std.proofs.lemmas.Result.{IfOk-weaker}
+use Rattle.bench_answer.proofs.Telling.{answers_session, answers_bad}
 use Rattle.bench_answer.proofs.answer.answer.Goals as goal
 
 pub returns-in-Ok : goal.returns-in-Ok
@@ -13,15 +14,15 @@ returns-in-Ok c =
     let input = c.args.input.now in
     let d = c.in-Ok.ensures.answer in
     record {
-      text = made_so c.run_input.result _ _ (λ s h. h ∙ ap (λ o. text_of (answer_lines o)) (sym d)) c.run_input.ensures;
-      bad = made_so c.run_input.result _ _ (λ s h. answers_session input (string_bytes s) (session_of c.in-Ok.described) d h) c.run_input.ensures;
+      text = IfOk-weaker c.run_input.result _ _ (λ s h. h ∙ ap (λ o. text_of (answer_lines o)) (sym d)) c.run_input.ensures;
+      bad = IfOk-weaker c.run_input.result _ _ (λ s h. answers_session input (string_bytes s) (session_of c.in-Ok.described) d h) c.run_input.ensures;
     }
 
-pub returns-in-Bad : goal.returns-in-Bad
-returns-in-Bad c =
+pub returns-in-Err-Bad : goal.returns-in-Err-Bad
+returns-in-Err-Bad c =
     let input = c.args.input.now in
-    let d : described input ≡ None = subst (λ e. Answers session_of (described input) (Err e)) c.in-Bad.is c.in-Err.ensures.answer in
+    let d : described input ≡ None = subst (λ e. Answers session_of (described input) (Err e)) c.in-Err-Bad.field-0-is c.in-Err-Bad.ensures.answer in
     record {
-      text = made_so c.from_str.result _ _ (λ s h. h ∙ ap (λ o. text_of (answer_lines o)) (sym d)) c.from_str.ensures.ok;
-      bad = made_so c.from_str.result _ _ (λ s h. answers_bad input (string_bytes s) d h) c.from_str.ensures.ok;
+      text = IfOk-weaker c.from_str.result _ _ (λ s h. h ∙ ap (λ o. text_of (answer_lines o)) (sym d)) c.from_str.ensures.ok;
+      bad = IfOk-weaker c.from_str.result _ _ (λ s h. answers_bad input (string_bytes s) d h) c.from_str.ensures.ok;
     }

@@ -5,7 +5,8 @@ use Rattle.std.proofs.lemmas.Bool.{and_parts}
 use Rattle.records.specs.Settings.{fits, settled}
 use Rattle.recorder.specs.Turns.{rules}
 use Rattle.sessions.specs.Whole.{buffers}
-use Rattle.bench_answer.proofs.Telling.{made_so, not_refused, tells}
+use Rattle.std.proofs.lemmas.Result.{IfOk-weaker}
+use Rattle.bench_answer.proofs.Telling.{not_refused, tells}
 use Rattle.bench_answer.proofs.answer.list_session.Goals as goal
 
 pub unreachable-requires : goal.unreachable-requires
@@ -14,8 +15,8 @@ unreachable-requires g c =
     let t = c.record_and_replay.new in
     let s = g.K.Core.state in
     not_refused s g.R.Reducer.meets (rules g.K.Core.next g.K.Core.after a.text.now) a.sizes a.turns.now []
-    (buffers a.cells.now (map s a.cores.now) a.store.now) (buffers t.cells (map s t.cores) t.store) c.in-Err.error c.in-Refused.field-0
-    c.in-Err.ensures.outcome c.in-Refused.is
+    (buffers a.cells.now (map s a.cores.now) a.store.now) (buffers t.cells (map s t.cores) t.store) c.in-Err-Refused.field-0 c.in-Err-Refused.field-0-0
+    c.in-Err-Refused.ensures.outcome c.in-Err-Refused.field-0-is
     (ap (λ k. settled a.sizes k (length a.cells.now) (length a.store.now)) (length-map a.cores.now s) ∙ c.requires.fitting)
 
 pub returns : goal.returns
@@ -24,7 +25,7 @@ returns g c =
     let t = c.record_and_replay.new in
     let long : length t.store ≡ length a.store.now = omega arith in
     let fit : fits (length t.store) a.sizes ≡ true = ap (λ n. fits n a.sizes) long ∙ (and_parts (fits (length a.store.now) a.sizes) _ c.requires.fitting).0 in
-    made_so c.list_run.result _ _
+    IfOk-weaker c.list_run.result _ _
     (λ s h. tells g.R.Reducer.meets (rules g.K.Core.next g.K.Core.after a.text.now) a.sizes a.turns.now _ _ _ c.in-Ok.ensures.outcome.1
     (length-map a.cores.now g.K.Core.state ∙ c.requires.lengths.0) c.requires.lengths.1 fit c.finished_steps.result c.finished_steps.ensures (string_bytes s) h)
     c.list_run.ensures

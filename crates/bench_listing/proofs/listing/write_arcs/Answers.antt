@@ -1,5 +1,5 @@
 -- The loop writes a line for each arc that is read.
-use Rattle.std.proofs.Common.{◌++◌, string_bytes, sym, ◌∙◌}
+use Rattle.std.proofs.Common.{◌++◌, string_bytes, rules}
 use Rattle.records.specs.Reading.{view}
 use Rattle.logs.proofs.Going.{reading_starts}
 use Rattle.bench_listing.specs.Runs.{log_text}
@@ -12,15 +12,15 @@ loop-record-init c = reading_starts (λ x. string_bytes c.args.out.now ++ log_te
 pub loop-record-smaller : goal.loop-record-smaller
 loop-record-smaller c =
     record_less (view c.loop-record.reader) (view c.next_record.new.self) c.next_record.result c.next_record.ensures
-    (string_bytes c.loop-record.out) c.args.core _ c.loop-record.invariant c.in-Some.record (sym c.unwrap_or.ensures ∙ c.in-Some.is)
+    (string_bytes c.loop-record.out) c.args.core _ c.loop-record.invariant c.in-Ok-Some.record (search rules)
 
 pub loop-record-preserved : goal.loop-record-preserved
 loop-record-preserved c =
     record_again (view c.loop-record.reader) (view c.next_record.new.self) c.next_record.result c.next_record.ensures
-    (string_bytes c.loop-record.out) c.args.core _ c.loop-record.invariant c.in-Some.record (sym c.unwrap_or.ensures ∙ c.in-Some.is)
+    (string_bytes c.loop-record.out) c.args.core _ c.loop-record.invariant c.in-Ok-Some.record (search rules)
     (string_bytes c.write_record.new.out) c.in_ok-write_record.ensures
 
-pub returns : goal.returns
-returns c =
+pub returns-in_default-2 : goal.returns-in_default-2
+returns-in_default-2 c =
     no_record (view c.loop-record.reader) (view c.next_record.new.self) c.next_record.result c.next_record.ensures
-    (string_bytes c.loop-record.out) c.args.core _ c.loop-record.invariant (sym c.unwrap_or.ensures ∙ c.in_default.is)
+    (string_bytes c.loop-record.out) c.args.core _ c.loop-record.invariant c.in_default.field-0 c.in_default.is

@@ -4,4 +4,4 @@ use Rattle.bench_listing.specs.Runs.{arcs_by_core, arcs_logged, arcs_text}
 use Rattle.bench_listing.proofs.listing.write_logs.Given as goal
 
 abbrev pub invariant-loop-core : goal.invariant-loop-core
-invariant-loop-core l = string_bytes l.out ≡ string_bytes l.initial.out ++ arcs_text (arcs_by_core (arcs_logged l.store l.sizes) l.core)
+invariant-loop-core l = string_bytes l.out ≡ string_bytes l.initial.out ++ arcs_text (arcs_by_core (arcs_logged l.logs.store.now l.logs.sizes) l.core)

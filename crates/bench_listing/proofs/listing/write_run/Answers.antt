@@ -8,10 +8,7 @@ use Rattle.bench_listing.proofs.listing.write_run.Goals as goal
 pub returns : goal.returns
 returns c =
     let arcs = map arc_line (arcs_in_store c.args.store.now c.args.sizes) in
-    let cells = cells_line c.args.cells.now in
-    let steps = replayed_line c.args.steps in
-    let start = string_bytes c.args.out.now in
-    let wrote : string_bytes c.writeln.new.self ≡ string_bytes c.write_cells.new.out ++ text_of (steps ∷ []) = search (rules, append_assoc) in
-    in_turn start (string_bytes c.write_logs.new.out) _ (text_of arcs) (text_of (cells ∷ []) ++ text_of (steps ∷ [])) c.in_ok-write_logs.ensures
-    (in_turn _ _ _ (text_of (cells ∷ [])) (text_of (steps ∷ [])) c.in_ok-write_cells.ensures wrote)
-    ∙ ap (λ l. start ++ l) (ap (λ l. text_of arcs ++ l) (sym (text_append (cells ∷ []) (steps ∷ []))) ∙ sym (text_append arcs (cells ∷ steps ∷ [])))
+    let rest = cells_line c.args.cells.now ∷ replayed_line c.args.steps ∷ [] in
+    let wrote : string_bytes c.writeln-2.new.self ≡ string_bytes c.write_logs.new.out ++ text_of rest = search (rules, append_assoc) in
+    in_turn (string_bytes c.args.out.now) (string_bytes c.write_logs.new.out) _ (text_of arcs) (text_of rest) c.in_ok-write_logs.ensures wrote
+    ∙ ap (λ l. string_bytes c.args.out.now ++ l) (sym (text_append arcs rest))

@@ -1,6 +1,5 @@
 -- The told copy stands in the place of the core, and all else is as it was.
-use Rattle.std.proofs.Common.{refl}
-use Rattle.cores.proofs.OneCore.{tells, tells_none, others_kept}
+use Rattle.cores.proofs.OneCore.{tells, others_kept}
 use Rattle.cores.proofs.acting.tell_core.Goals as goal
 
 pub returns-then-j-cores : goal.returns-then-j-cores
@@ -9,11 +8,4 @@ returns-then-j-cores g c =
       states = tells g.K.Core.state c.args.text.now c.args.cores.now c.args.j g.K.Core.after c.args.number c.if-j-cores.true
           c.index-cores-j.result c.index-cores-j.is c.told_copy.result c.told_copy.ensures;
       others = others_kept c.args.cores.now c.args.j c.told_copy.result;
-    }
-
-pub returns-else-j-cores : goal.returns-else-j-cores
-returns-else-j-cores g c =
-    record {
-      states = tells_none g.K.Core.state c.args.text.now c.args.cores.now c.args.j g.K.Core.after c.args.number c.if-j-cores.false;
-      others = (refl, refl);
     }

@@ -5,5 +5,5 @@ use Rattle.listing.proofs.listing.write_logs.Given as goal
 
 abbrev pub invariant-loop-core : goal.invariant-loop-core
 invariant-loop-core l =
-    string_bytes l.out ++ logs_from l.store l.sizes (l.sizes.cores - l.core) l.core
-    ≡ string_bytes l.initial.out ++ logs_from l.store l.sizes l.sizes.cores 0
+    string_bytes l.out ++ logs_from l.logs.store.now l.logs.sizes (l.logs.sizes.cores - l.core-counter) l.core-counter
+    ≡ string_bytes l.initial.out ++ logs_from l.logs.store.now l.logs.sizes l.logs.sizes.cores 0

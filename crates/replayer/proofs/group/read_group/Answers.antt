@@ -1,6 +1,6 @@
 -- Each round reads one arc more; the first record that is none, and a fault, give what the whole gives.
-use Rattle.std.proofs.Common.{◌≡◌, ◌+◌, true, ◌&&◌, ltb, length, get_or, Some, None, Ok, Err, sym, ap, ◌∙◌, subst, arith}
-use Rattle.std.proofs.lemmas.Result.{err_from_is_err_and}
+use Rattle.std.proofs.Common.{◌≡◌, ◌+◌, true, ◌&&◌, ltb, length, get_or, Some, None, Ok, Err, sym, ap, ◌∙◌, subst, arith, rules}
+use Rattle.records.specs.declared.faults.Refusal.TheVariants.{LogFault}
 use Rattle.records.specs.Faults.{refusal, session_fault}
 use Rattle.records.specs.Reading.{view}
 use Rattle.records.specs.Settings.{fits, log_of, heading_of}
@@ -23,77 +23,77 @@ whole c =
     (view c.in_ok-reader.reader) (placed c).0 (placed c).1
 
 -- what stood at the place behind the arcs so far
-saw : (c : In-Some) → arc_seen c.args.counts.now (at_place c.in_ok-reader.reader.heading c.in_ok-reader.reader.log.now c.loop-arc.behind) ≡ Ok (Some (log_arc c.in-Some.arc, c.in-Some.arc.behind))
-saw c = ap (arc_seen c.args.counts.now) (sym c.loop-arc.invariant.1) ∙ sym c.next_arc.ensures.arc ∙ ap arc_as (c.in_ok-arc.was ∙ ap Ok c.in-Some.is)
+saw : (c : In-Some) → arc_seen c.args.counts.now (at_place c.in_ok-reader.reader.heading c.in_ok-reader.reader.log.now c.loop-read.behind) ≡ Ok (Some (log_arc c.in-Some.read, c.in-Some.read.behind))
+saw c = ap (arc_seen c.args.counts.now) (sym c.loop-read.invariant.1) ∙ sym c.next_arc.ensures.arc ∙ ap arc_as (c.in_ok-read.was ∙ ap Ok c.in-Some.is)
 
 pub returns-in_err-reader : goal.returns-in_err-reader
 unfolding read_group
 returns-in_err-reader c =
-    let p = err_from_is_err_and c.from_residual.result c.from_residual.ensures.1 in
     let a = c.args in
-    ap group_as (p.1 ∙ ap Err p.2)
+    let is : c.from_residual.result ≡ Err c.in_err-reader.field-0.0 = search rules in
+    ap group_as is
     ∙ refused_if a.store.now a.sizes a.core a.place (fits (length a.store.now) a.sizes && ltb a.core a.sizes.cores)
     (refusal c.in_err-reader.field-0.0) (at_place (heading_of a.sizes a.core) (log_of a.store.now a.sizes a.core) a.place) _ c.in_err-reader.ensures
 
-pub loop-arc-init : goal.loop-arc-init
-loop-arc-init c =
-    let q = (placed (goal.at.loop-arc-init c).In_ok-reader).1 in
+pub loop-read-init : goal.loop-read-init
+loop-read-init c =
+    let q = (placed (goal.at.loop-read-init c).In_ok-reader).1 in
     let r = c.in_ok-reader.reader in (
       reading_starts c.args.counts.now r.heading r.log.now c.args.done.now (get_or c.args.done.now c.args.core 0 + 1) c.args.place,
       (λ i. record { heading = r.heading; log = r.log.now; cursor = (q i).cursor; state = (q i).state }),
     )
 
-pub returns-in_err-arc : goal.returns-in_err-arc
-returns-in_err-arc c =
-    let p = err_from_is_err_and c.from_residual-in_err-arc.result c.from_residual-in_err-arc.ensures.1 in
+pub returns-in_err-read : goal.returns-in_err-read
+returns-in_err-read c =
     let a = c.args in
     let r = c.in_ok-reader.reader in
-    ap group_as (p.1 ∙ ap Err p.2)
-    ∙ reading_fault a.counts.now r.heading r.log.now a.done.now _ _ c.loop-arc.behind c.loop-arc.waits c.loop-arc.invariant.0
-    (session_fault c.in_err-arc.field-0.0) (ap (arc_seen a.counts.now) (sym c.loop-arc.invariant.1) ∙ sym c.in_err-arc.ensures.arc)
-    ∙ whole (goal.at.returns-in_err-arc c).In_ok-reader
+    let is : c.from_residual-in_err-read.result ≡ Err (LogFault c.in_err-read.field-0.0) = search rules in
+    ap group_as is
+    ∙ reading_fault a.counts.now r.heading r.log.now a.done.now _ _ c.loop-read.behind c.loop-read.waits c.loop-read.invariant.0
+    (session_fault c.in_err-read.field-0.0) (ap (arc_seen a.counts.now) (sym c.loop-read.invariant.1) ∙ sym c.in_err-read.ensures.arc)
+    ∙ whole (goal.at.returns-in_err-read c).In_ok-reader
 
 -- the reader that read an arc stands behind it
-on : (c : In-Some) → view c.next_arc.new.reader ≡ at_place c.in_ok-reader.reader.heading c.in_ok-reader.reader.log.now c.in-Some.arc.behind
+on : (c : In-Some) → view c.next_arc.new.reader ≡ at_place c.in_ok-reader.reader.heading c.in_ok-reader.reader.log.now c.in-Some.read.behind
 on c =
-    subst (λ r. StandsBehind r (view c.loop-arc.reader) (view c.next_arc.new.reader)) (c.in_ok-arc.was ∙ ap Ok c.in-Some.is) c.next_arc.ensures.behind
-    ∙ ap (λ v. at_place v.heading v.log c.in-Some.arc.behind) c.loop-arc.invariant.1
+    subst (λ r. StandsBehind r (view c.loop-read.reader) (view c.next_arc.new.reader)) (c.in_ok-read.was ∙ ap Ok c.in-Some.is) c.next_arc.ensures.behind
+    ∙ ap (λ v. at_place v.heading v.log c.in-Some.read.behind) c.loop-read.invariant.1
 
-pub loop-arc-smaller : goal.loop-arc-smaller
-loop-arc-smaller c =
-    let w = (goal.at.loop-arc-smaller c).In-Some in
+pub loop-read-smaller : goal.loop-read-smaller
+loop-read-smaller c =
+    let w = (goal.at.loop-read-smaller c).In-Some in
     let q = saw w in
-    let f = arc_fits c.args.counts.now (at_place c.in_ok-reader.reader.heading c.in_ok-reader.reader.log.now c.loop-arc.behind) (log_arc c.in-Some.arc) c.in-Some.arc.behind q in
-    let old = c.loop-arc.invariant.1 in
-    let log : length c.loop-arc.reader.log.now ≡ length c.in_ok-reader.reader.log.now = ap (λ v. length v.log) old in
-    let at : c.loop-arc.reader.cursor ≡ c.loop-arc.behind.offset = ap (λ v. v.cursor) old in
+    let f = arc_fits c.args.counts.now (at_place c.in_ok-reader.reader.heading c.in_ok-reader.reader.log.now c.loop-read.behind) (log_arc c.in-Some.read) c.in-Some.read.behind q in
+    let old = c.loop-read.invariant.1 in
+    let log : length c.loop-read.reader.log.now ≡ length c.in_ok-reader.reader.log.now = ap (λ v. length v.log) old in
+    let at : c.loop-read.reader.cursor ≡ c.loop-read.behind.offset = ap (λ v. v.cursor) old in
     let log' : length c.next_arc.new.reader.log.now ≡ length c.in_ok-reader.reader.log.now = ap (λ v. length v.log) (on w) in
-    let at' : c.next_arc.new.reader.cursor ≡ c.in-Some.arc.behind.offset = ap (λ v. v.cursor) (on w) in
+    let at' : c.next_arc.new.reader.cursor ≡ c.in-Some.read.behind.offset = ap (λ v. v.cursor) (on w) in
     omega (arith, f.0, f.1)
 
-pub loop-arc-preserved : goal.loop-arc-preserved
-loop-arc-preserved c =
-    let w = (goal.at.loop-arc-preserved c).In-Some in
+pub loop-read-preserved : goal.loop-read-preserved
+loop-read-preserved c =
+    let w = (goal.at.loop-read-preserved c).In-Some in
     let a = c.args in
     let r = c.in_ok-reader.reader in (
-      subst (Reading a.counts.now r.heading r.log.now a.done.now _ _ c.in-Some.arc.behind) (sym c.first_wait-waits.ensures)
-          (reading_more a.counts.now r.heading r.log.now a.done.now _ _ c.loop-arc.behind c.loop-arc.waits c.loop-arc.invariant.0
-          (log_arc c.in-Some.arc) c.in-Some.arc.behind (saw w) c.if-arc-next.false),
+      subst (Reading a.counts.now r.heading r.log.now a.done.now _ _ c.in-Some.read.behind) (sym c.first_wait-waits.ensures)
+          (reading_more a.counts.now r.heading r.log.now a.done.now _ _ c.loop-read.behind c.loop-read.waits c.loop-read.invariant.0
+          (log_arc c.in-Some.read) c.in-Some.read.behind (saw w) c.if-read-next.false),
       on w,
     )
 
-pub returns-then-arc-next : goal.returns-then-arc-next
-returns-then-arc-next c =
+pub returns-then-read-next : goal.returns-then-read-next
+returns-then-read-next c =
     let a = c.args in
     let r = c.in_ok-reader.reader in
-    reading_other a.counts.now r.heading r.log.now a.done.now _ _ c.loop-arc.behind c.loop-arc.waits c.loop-arc.invariant.0
-    (log_arc c.in-Some.arc) c.in-Some.arc.behind (saw (goal.at.returns-then-arc-next c).In-Some) c.if-arc-next.true
-    ∙ whole (goal.at.returns-then-arc-next c).In_ok-reader
+    reading_other a.counts.now r.heading r.log.now a.done.now _ _ c.loop-read.behind c.loop-read.waits c.loop-read.invariant.0
+    (log_arc c.in-Some.read) c.in-Some.read.behind (saw (goal.at.returns-then-read-next c).In-Some) c.if-read-next.true
+    ∙ whole (goal.at.returns-then-read-next c).In_ok-reader
 
 pub returns-in_default : goal.returns-in_default
 returns-in_default c =
     let a = c.args in
     let r = c.in_ok-reader.reader in
-    reading_none a.counts.now r.heading r.log.now a.done.now _ _ c.loop-arc.behind c.loop-arc.waits c.loop-arc.invariant.0
-    (ap (arc_seen a.counts.now) (sym c.loop-arc.invariant.1) ∙ sym c.next_arc.ensures.arc ∙ ap arc_as (c.in_ok-arc.was ∙ ap Ok c.in_default.is))
+    reading_none a.counts.now r.heading r.log.now a.done.now _ _ c.loop-read.behind c.loop-read.waits c.loop-read.invariant.0
+    (ap (arc_seen a.counts.now) (sym c.loop-read.invariant.1) ∙ sym c.next_arc.ensures.arc ∙ ap arc_as (c.in_ok-read.was ∙ ap Ok c.in_default.is))
     ∙ whole (goal.at.returns-in_default c).In_ok-reader

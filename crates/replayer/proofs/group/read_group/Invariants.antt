@@ -5,12 +5,12 @@ use Rattle.replayer.specs.Groups.{at_place, group_at, held_up}
 use Rattle.replayer.proofs.Readings.{Reading}
 use Rattle.replayer.proofs.group.read_group.Given as goal
 
-abbrev pub invariant-loop-arc : goal.invariant-loop-arc
-invariant-loop-arc l =
+abbrev pub invariant-loop-read : goal.invariant-loop-read
+invariant-loop-read l =
     let g = l.initial.reader.heading in
     let log = l.initial.reader.log.now in
     Reading l.counts g log l.done l.next (held_up l.done None (group_at l.counts g log l.next l.initial.behind)) l.behind l.waits
     × (view l.reader ≡ at_place g log l.behind)
 
-abbrev pub decreases-loop-arc : goal.decreases-loop-arc
-decreases-loop-arc l = length l.reader.log.now - l.reader.cursor
+abbrev pub decreases-loop-read : goal.decreases-loop-read
+decreases-loop-read l = length l.reader.log.now - l.reader.cursor

@@ -1,58 +1,24 @@
--- A session that is refused or finds no memory changes nothing; any other is a whole one.
-use Rattle.std.proofs.Common.{◌≡◌, map, reverse, length, take, Err, vec_items, sym, refl, ap, ◌∙◌, subst, arith}
+-- Where the buffers hold, begin refuses nothing, and the session is a whole one.
+use Rattle.std.proofs.Common.{◌≡◌, map, reverse, length, vec_items, sym, ap, ◌∙◌, subst, arith}
 use Rattle.std.proofs.lemmas.List.{length-map, take-map, drop-map}
-use Rattle.std.proofs.lemmas.Result.{err_from_is_err_and}
 use Rattle.records.specs.Settings.{settled, SurplusKept}
 use Rattle.recorder.proofs.Ways.{number_not_zero}
 use Rattle.recorder.specs.Turns.{Tape, tape, world, scene, rules, said, Begun, fresh_tape, headed_from}
 use Rattle.recordings.specs.ByTheRules.{InARow}
 use Rattle.sessions.specs.Replaying.{first_opening, said_by_steps, run_behind}
-use Rattle.sessions.specs.Whole.{Buffers, buffers, ComesTo, CoresKept}
-use Rattle.sessions.specs.declared.session.SessionError.TheVariants.{NoMemory}
 use Rattle.traces.proofs.Recordings.{begun_done, begun_err}
 use Rattle.sessions.proofs.Wholes as wholes
 use Rattle.sessions.proofs.session.record_and_replay.Goals as goal
 
-pub returns-then-not-buffers_hold : goal.returns-then-not-buffers_hold
-returns-then-not-buffers_hold g c =
-    let a = c.args in
-    record {
-      outcome = (
-        ap (λ k. settled a.sizes k (length a.cells.now) (length a.store.now)) (length-map a.cores.now g.K.Core.state) ∙ sym c.if-not-buffers_hold.ensures,
-        refl,
-        refl,
-      );
-      others = refl;
-    }
-
-pub returns-in_err-room : goal.returns-in_err-room
-returns-in_err-room g c =
-    let a = c.args in
-    let p = err_from_is_err_and c.from_residual.result c.from_residual.ensures.1 in
-    let is : c.from_residual.result ≡ Err NoMemory = p.1 ∙ ap Err p.2 in
-    let b : Buffers = buffers a.cells.now (map g.K.Core.state a.cores.now) a.store.now in
-    let ready = ap (λ k. settled a.sizes k (length a.cells.now) (length a.store.now)) (length-map a.cores.now g.K.Core.state) ∙ sym c.if-not-buffers_hold.ensures in
-    record {
-      outcome = subst (ComesTo g.K.Core.state g.R.Reducer.meets (rules g.K.Core.next g.K.Core.after a.text.now) a.sizes a.turns.now a.steps.now b b) (sym is) (ready, refl);
-      others = subst (CoresKept a.sizes a.cores.now a.cores.now) (sym is) refl;
-    }
-
-pub returns-in-Err : goal.returns-in-Err
-returns-in-Err g c =
+pub returns-in_err-begin-clause-outcome : goal.returns-in_err-begin-clause-outcome
+returns-in_err-begin-clause-outcome g c =
     let a = c.args in
     let n = g.R.Reducer.numbers in
-    let s = g.K.Core.state in
-    let z = a.sizes in
-    let b = begun_err z (length a.cores.now) (length a.cells.now) (tape n c.new-recorder.result a.store.now) (tape n c.begin.new.self c.begin.new.store)
-    c.in-Err.refusal (number_not_zero c.in-Err.refusal) c.in-Err.ensures.outcome in
-    record {
-      outcome = (
-        ap (λ k. settled z k (length a.cells.now) (length a.store.now)) (length-map a.cores.now s) ∙ b.0,
-        b.1,
-        ap (λ (t : Tape). buffers a.cells.now (map s a.cores.now) t.store) b.2,
-      );
-      others = refl;
-    }
+    let r = c.in_err-begin.field-0.0 in
+    let refused = begun_err a.sizes (length a.cores.now) (length a.cells.now) (tape n c.new-recorder.result a.store.now) (tape n c.begin.new.self c.begin.new.store)
+    r (number_not_zero r) c.in_err-begin.ensures.outcome in
+    let never = c.if-not-buffers_hold.ensures ∙ refused.0 in
+    cc
 
 pub returns : goal.returns
 returns g c =
@@ -70,27 +36,28 @@ returns g c =
     let turns = a.turns.now in
     let steps = a.steps.now in
     let room = c.in_ok-room.ensures in
-    let t = c.take_turns.new in
+    let t = c.record.new in
     let w = scene n s c.new-recorder.result cores cells store in
     let v = scene n s t.recorder t.cores t.cells t.store in
-    let answers = map said (vec_items t.answers) in
+    let answers = map said (vec_items t.self.turns) in
     let ok = ap (λ k. settled z k (length cells) (length store)) (length-map cores s) ∙ sym c.if-not-buffers_hold.ensures in
     let new = ap (λ (x : Tape). record { store = store; book = x.book; history = x.history; numbers = x.numbers }) c.new-recorder.ensures in
     let began : tape n c.begin.new.self c.begin.new.store ≡ fresh_tape z (headed_from z z.cores 0 store) =
-    ap (λ (x : Begun). x.leaves) (c.in_default.ensures.outcome ∙ begun_done z (length cores) (length cells) w.tape (sym c.if-not-buffers_hold.ensures)) in
+    ap (λ (x : Begun). x.leaves) (c.in_ok-begin.ensures.outcome ∙ begun_done z (length cores) (length cells) w.tape (sym c.if-not-buffers_hold.ensures)) in
     let long : length (headed_from z z.cores 0 store) ≡ length store =
     ap (λ (x : Tape). length x.store) (sym began) ∙ (let k : length c.begin.new.store ≡ length store = omega arith in k) in
-    let row = subst (λ (x : Tape). InARow meets (rules next after text) (world x cells (map s cores)) (reverse turns) (reverse answers) v) began c.take_turns.ensures.row in
-    let e = c.replay_copies-ends.ensures in
+    let row = subst (λ (x : Tape). InARow meets (rules next after text) (world x cells (map s cores)) (reverse turns) (reverse answers) v) began c.record.ensures.row in
+    let e = c.replay.ensures in
     let sizes = ap (λ (x : Tape). x.book.sizes) began in
-    let beyond = subst (λ y. SurplusKept y cores t.cores cells t.cells) sizes c.take_turns.ensures.surplus in
+    let beyond = subst (λ y. SurplusKept y cores t.cores cells t.cells) sizes c.record.ensures.surplus in
     let states = drop-map s z.cores t.cores ∙ ap (map s) beyond.0 ∙ sym (drop-map s z.cores cores) in
-    let first_cells : vec_items c.in_ok-room.room.cells ≡ take z.cells cells = room.same_cells in
-    let first_states : map s (vec_items c.in_ok-room.room.cores) ≡ take z.cores (map s cores) = ap (map s) room.same_cores ∙ sym (take-map s z.cores cores) in
+    let kept = c.record.ensures.others in
+    let first_cells = ap vec_items kept.1 ∙ room.same_cells in
+    let first_states = ap (λ y. map s (vec_items y)) kept.2 ∙ ap (map s) room.same_cores ∙ sym (take-map s z.cores cores) in
     record {
       outcome = (
         ok,
-        wholes.whole meets g.met.R.Reducer.bounded next after text z w v new turns steps answers ok long row e.octets beyond.1 states _ refl
+        wholes.whole meets g.met.R.Reducer.bounded next after text z w v new turns steps answers ok long row e.octets beyond.1 states _ (ap (λ y. map said (vec_items y)) e.turns)
             (e.opened ∙ (λ i. (first_opening z (first_cells i) (first_states i) t.store).says))
             (e.said ∙ (λ i. said_by_steps next after text t.store z (first_cells i) (first_states i) steps))
             (e.ended ∙ (λ i. (run_behind next after text t.store z (first_cells i) (first_states i) steps).says))

@@ -8,7 +8,7 @@ use Rattle.replayer.proofs.replay.Replayer.circle.Given as goal
 abbrev pub invariant-loop-j : goal.invariant-loop-j
 invariant-loop-j g l =
     (l.carried ≤ l.j)
-    × (circled g.K.Core.next g.K.Core.after l.text l.store (l.count - l.j) l.j (session l.carried l.self l.cells (map g.K.Core.state l.cores))
-    ≡ circled g.K.Core.next g.K.Core.after l.text l.store l.count 0 (session 0 l.initial.self l.initial.cells (map g.K.Core.state l.initial.cores)))
+    × (circled g.K.Core.next g.K.Core.after l.text l.store (l.initial.self.sizes.cores - l.j) l.j (session l.carried l.self l.cells (map g.K.Core.state l.cores))
+    ≡ circled g.K.Core.next g.K.Core.after l.text l.store l.initial.self.sizes.cores 0 (session 0 l.initial.self l.initial.cells (map g.K.Core.state l.initial.cores)))
     × SurplusKept l.initial.self.sizes l.initial.cores l.cores l.initial.cells l.cells
     × Moves l.initial.self l.self l.carried

@@ -1,0 +1,36 @@
+-- Each of the three reducers has one choice.
+use Rattle.std.proofs.Common.{◌≡◌, map, replicate, string_bytes}
+use Rattle.bench_input.specs.declared.input.Reduction.TheVariants.{KeepAll, Pairwise, Exact}
+use Rattle.cores.specs.Memory.{start}
+use Rattle.recorder.specs.Turns.{rules}
+use Rattle.reducers.specs.Numbers.{zeros}
+use Rattle.reducers.specs.Rows.{KnownOnly}
+use Rattle.runs.proofs.Decided.{three_reducers_are_decided}
+use Rattle.bench_answer.specs.Answer.{sizes_for}
+use Rattle.std.proofs.lemmas.Result.{IfOk-weaker}
+use Rattle.bench_answer.proofs.Telling.{told_reduced}
+use Rattle.bench_answer.proofs.answer.run_kind.Goals as goal
+
+pub returns-in-KeepAll : goal.returns-in-KeepAll
+returns-in-KeepAll g c =
+    let a = c.args.input.now in
+    IfOk-weaker c.run_session.result _ _
+    (λ s h. told_reduced (λ n _. n ≡ zeros) a.reduction KeepAll c.in-KeepAll.is three_reducers_are_decided.keep_all_logs (rules g.K.Core.next g.K.Core.after a.text.items)
+    (sizes_for a.cores a.cells) (start (replicate a.cells 0) (map g.K.StartingCore.first a.starts.items)) a.turns.items (string_bytes s) h)
+    c.run_session.ensures
+
+pub returns-in-Pairwise : goal.returns-in-Pairwise
+returns-in-Pairwise g c =
+    let a = c.args.input.now in
+    IfOk-weaker c.run_session-in-Pairwise.result _ _
+    (λ s h. told_reduced KnownOnly a.reduction Pairwise c.in-Pairwise.is three_reducers_are_decided.pairwise_logs (rules g.K.Core.next g.K.Core.after a.text.items)
+    (sizes_for a.cores a.cells) (start (replicate a.cells 0) (map g.K.StartingCore.first a.starts.items)) a.turns.items (string_bytes s) h)
+    c.run_session-in-Pairwise.ensures
+
+pub returns-in-Exact : goal.returns-in-Exact
+returns-in-Exact g c =
+    let a = c.args.input.now in
+    IfOk-weaker c.run_session-in-Exact.result _ _
+    (λ s h. told_reduced ◌≡◌ a.reduction Exact c.in-Exact.is three_reducers_are_decided.exact_logs (rules g.K.Core.next g.K.Core.after a.text.items)
+    (sizes_for a.cores a.cells) (start (replicate a.cells 0) (map g.K.StartingCore.first a.starts.items)) a.turns.items (string_bytes s) h)
+    c.run_session-in-Exact.ensures
