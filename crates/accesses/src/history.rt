@@ -1,4 +1,4 @@
-ghost use Rattle.std.specs.Prelude.{◌≡◌, [], ◌∷◌, replicate};
+ghost use Rattle.std.specs.Prelude.{◌≡◌, replicate};
 ghost use Rattle.accesses.specs.Histories.{untouched, remembered, remembering, from_core, candidates_of, candidates_at, other as other_than, position_of, latest_first};
 
 use crate::access::{Access, Candidate};
@@ -23,6 +23,7 @@ impl CellHistory {
             },
             AccessKind::Read => {
                 let i = usize::from(access.core);
+                // the library's `get_mut` does not say what the array ends as
                 if i < self.reads.len() {
                     self.reads[i] = Some(access);
                 }

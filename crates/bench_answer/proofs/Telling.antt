@@ -1,23 +1,17 @@
 -- A whole session whose run is listed tells of its turns.
-use Rattle.std.proofs.Common.{◌≡◌, ℕ, ◌-◌, true, List, [], ◌∷◌, ◌++◌, map, reverse, length, get_or, Some, None, Err, sym, ap, ◌∙◌, subst, arith}
+use Rattle.std.proofs.Common.{◌≡◌, ℕ, ◌-◌, true, List, [], ◌∷◌, ◌++◌, map, reverse, length, get_or, Some, None, sym, ap, ◌∙◌, subst, arith}
 use Rattle.std.proofs.lemmas.List.{take_all, drop_all, append-nil, length-map}
-use Rattle.std.proofs.lemmas.Bool.{false≢true}
 use Rattle.bench_listing.proofs.StoreArcs.{arcs_held}
 use Rattle.bench_listing.specs.Lines.{text_of}
 use Rattle.bench_listing.specs.Runs.{RunArc, arcs_in_store, run_lines}
 use Rattle.cores.specs.Memory.{Rules, Memory, start, plain}
-use Rattle.cores.specs.declared.interface.Request.{Request}
-use Rattle.recorder.specs.Turns.{rules}
 use Rattle.recordings.specs.ByTheRules.{ByTheRules}
 use Rattle.recordings.specs.Tracks.{logs_of}
 use Rattle.records.specs.Settings.{fits}
 use Rattle.records.specs.declared.settings.Sizes.{Sizes}
 use Rattle.runs.specs.Recording.{Meets}
-use Rattle.recorder.specs.declared.rules.Refusal.{Refusal}
 use Rattle.replays.specs.Replies.{carried_out}
-use Rattle.sessions.specs.Whole.{Buffers, Answers, Whole, ComesTo, holds, first_memory}
-use Rattle.sessions.specs.declared.session.SessionError.{SessionError}
-use Rattle.sessions.specs.declared.session.SessionError.TheVariants.{Refused}
+use Rattle.sessions.specs.Whole.{Buffers, Answers, Whole, first_memory}
 use Rattle.recordings.proofs.Decided.{rules_decide}
 use Rattle.recordings.specs.Decided.{Decides, arcs_by}
 use Rattle.runs.specs.Reducers.{Reducer}
@@ -27,13 +21,6 @@ use Rattle.bench_input.specs.Session.{Session}
 use Rattle.bench_input.specs.declared.input.Reduction.{Reduction}
 use Rattle.bench_answer.specs.Answer.{reducer_for, lines_of, decided_lines, session_lines, bad_text, BadExactly}
 use Rattle.bench_answer.specs.Told.{Told}
-
--- where the sizes fit, a session is not refused
-pub not_refused : {X : Type 0} (state : X → List ℕ) (meets : Meets) (K : Rules) (z : Sizes) (turns steps : List ℕ) (before later : Buffers) (error : SessionError) (e : Refusal) →
-    ComesTo state meets K z turns steps before later (Err error) → error ≡ Refused e → holds z before ≡ true → ⊥
-not_refused state meets K z turns steps before later error e o q ok =
-    let x = subst (λ r. ComesTo state meets K z turns steps before later (Err r)) q o in
-    false≢true (sym x.0 ∙ ok)
 
 module _ (meets : Meets) (K : Rules) (z : Sizes) (turns : List ℕ) (before later : Buffers) (a : Answers) (w : Whole meets K z turns [] before later a)
     (many_cores : length before.states ≡ z.cores) (many_cells : length before.cells ≡ z.cells)
@@ -83,13 +70,6 @@ told_reduced meets asked is q d K z m turns text t =
 pub as_many : {X : Type 0} (f : X → List ℕ) (g : ℕ → List ℕ) (row items : List X) (starts : List ℕ) → row ≡ items → map f items ≡ map g starts → length row ≡ length starts
 as_many f g row items starts r e = ap length r ∙ sym (length-map items f) ∙ ap length e ∙ length-map starts g
 
--- the same turns of the same session
-pub told_same : (meets : Meets) (next : List ℕ → List ℕ → Request) (after : List ℕ → List ℕ → ℕ → List ℕ) (z : Sizes) (text text' cells cells' turns turns' says : List ℕ) (states states' : List (List ℕ)) →
-    text ≡ text' → cells ≡ cells' → states ≡ states' → turns ≡ turns' →
-    Told meets (rules next after text) z (start cells states) turns says → Told meets (rules next after text') z (start cells' states') turns' says
-told_same meets next after z text text' cells cells' turns turns' says states states' a b c d h =
-    coe 0 1 (i. Told meets (rules next after (a i)) z (start (b i) (c i)) (d i) says) h
-
 -- the lines of a run are not bad
 pub not_bad : (arcs : List RunArc) (cells : List ℕ) (steps : ℕ) → text_of (run_lines arcs cells steps) ≡ bad_text → ⊥
 not_bad [] cells steps e = let q : ◌≡◌ {A = ℕ} 99 98 = ap (λ l. get_or l 0 0) e in omega arith
@@ -104,6 +84,6 @@ answers_session input text s d h = record {
 
 pub answers_bad : (input text : List ℕ) → described input ≡ None → text ≡ bad_text → BadExactly input text
 answers_bad input text d h = record {
-  bad = ((λ e x y. let p = so_described input x y in let q : ◌≡◌ {A = ℕ} 0 1 = cc in omega arith), (λ none. h));
-  lines = λ x y. let p = so_described input x y in let q : ◌≡◌ {A = ℕ} 0 1 = cc in absurd (omega arith);
+  bad = ((λ e x y. let p = so_described input x y in cc), (λ none. h));
+  lines = λ x y. let p = so_described input x y in absurd cc;
 }

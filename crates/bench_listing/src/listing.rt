@@ -41,7 +41,7 @@ fn write_logs(out: &mut String, store: &[u8], sizes: Sizes) -> Result<(), AllocE
     let Ok(logs) = Logs::new(store, sizes) else {
         return Ok(());
     };
-    for core in 0..logs.count() {
+    for core in 0..logs.cores() {
         let Ok(reader) = logs.reader(core) else {
             unreachable()
         };

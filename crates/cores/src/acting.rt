@@ -55,6 +55,7 @@ fn store(cells: &mut [u16], cell: u16, number: u16)
     ensures { cells.new ≡ slice_set cells.old cell number }
 {
     let at = usize::from(cell);
+    // the library's `get_mut` does not say what the slice ends as
     if at < cells.len() {
         cells[at] = number;
     }

@@ -5,6 +5,7 @@ use Rattle.std.specs.List.{AllByRecursion}
 use Rattle.accesses.specs.declared.access.Access.{Access}
 use Rattle.accesses.specs.declared.access.Candidate.{Candidate}
 use Rattle.logs.specs.Lawful.{Stands, Behind, Lawful}
+use Rattle.logs.proofs.Rules.{all_map}
 use Rattle.recorder.specs.Judged.{known?, fresh, arcs_to}
 use Rattle.recorder.specs.Refusals.{Book}
 use Rattle.records.specs.Format.{LogArc}
@@ -13,10 +14,6 @@ use Rattle.records.specs.declared.settings.Heading.{Heading}
 use Rattle.reducers.specs.Numbers.{Numbers}
 use Rattle.lawful_logs.specs.Orderly.{done_by}
 use Rattle.lawful_logs.proofs.Candidates.{Fit, Apart, Distinct}
-
-pub all_map : {X : Type 0} (P Q : X → Type 0) (xs : List X) → ((x : X) → P x → Q x) → AllByRecursion P xs → AllByRecursion Q xs
-all_map P Q [] f h = h
-all_map P Q (x ∷ xs) f h = (f x h.0, all_map P Q xs f h.1)
 
 pub all_append : {X : Type 0} (P : X → Type 0) (xs ys : List X) → AllByRecursion P xs → AllByRecursion P ys → AllByRecursion P (xs ++ ys)
 all_append P [] ys h k = k

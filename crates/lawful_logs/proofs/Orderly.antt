@@ -24,7 +24,8 @@ use Rattle.traces.proofs.Steps.{Passed, passed, refused_turn, accepted_turn}
 use Rattle.traces.specs.Recording.{Recording, opened, extended, recording_after}
 use Rattle.traces.specs.Trace.{none, begins, turns, refused}
 use Rattle.lawful_logs.specs.Orderly.{done_by, Done, WriteDone, ReadDone, CellDone, OrderlyLog, Orderly, TracesAreOrderly, NewIsOrderly, OrderlyIsAccepted}
-use Rattle.lawful_logs.proofs.Arcs.{all_map, all_append, arcs_target, arcs_done, arcs_lawful, lawful_append}
+use Rattle.logs.proofs.Rules.{all_map}
+use Rattle.lawful_logs.proofs.Arcs.{all_append, arcs_target, arcs_done, arcs_lawful, lawful_append}
 use Rattle.lawful_logs.proofs.Candidates.{Fit, Distinct, candidates_fit}
 
 -- what holds of a new element and of the one that was there holds wherever one looks
@@ -203,7 +204,7 @@ new_is_orderly w e h = record {
   idle = λ k q. ap (λ (b : Book). done_by b k) e ∙ none_done 4 k;
 }
 
-counts_at : (logs : List Log) (i : ℕ) → get_or (map (λ (l : Log). l.instructions) logs) i 0 ≡ (get_or logs i no_log).instructions
+pub counts_at : (logs : List Log) (i : ℕ) → get_or (map (λ (l : Log). l.instructions) logs) i 0 ≡ (get_or logs i no_log).instructions
 counts_at [] i = refl
 counts_at (l ∷ logs) zero = refl
 counts_at (l ∷ logs) (suc i) = counts_at logs i

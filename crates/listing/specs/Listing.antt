@@ -44,14 +44,11 @@ abbrev pub verdict_line : Result (List ℕ) Fault → List ℕ
 verdict_line (Ok _) = accepted
 verdict_line (Err f) = faulty f
 
--- the same, by what reading all logs answers
+-- its text, by what reading all logs answers
 abbrev pub verdict_text : Result (List ℕ) Refusal → List ℕ
 verdict_text (Ok _) = codes "accepted"
 verdict_text (Err BadSetting) = codes "refused: " ++ bad_words
 verdict_text (Err (LogFault e)) = codes "refused: " ++ fault_text (session_fault e)
-
-abbrev pub verdict_of : Result (List ℕ) Refusal → List ℕ
-verdict_of r = full_line (verdict_text r)
 
 -- the whole text
 abbrev pub listing : List ℕ → Sizes → List ℕ

@@ -1,9 +1,8 @@
 ghost use Rattle.std.specs.Prelude.{◌≡◌, ◌++◌, is_ok, IfOk, string_bytes, OnOk};
 ghost use Rattle.records.specs.Reading.{view, next_record};
-ghost use Rattle.logs.specs.Session.{read_log};
 ghost use Rattle.logs.specs.Walk.{reading_from};
 ghost use Rattle.listing.specs.NextLines.{told_as, told_of};
-ghost use Rattle.listing.specs.Listing.{entry_lines, log_lines, logs_from, listing};
+ghost use Rattle.listing.specs.Listing.{entry_lines, logs_from, listing};
 
 use crate::lines::{RecordLine, VerdictLine};
 use logs::session::read_logs;
@@ -45,7 +44,7 @@ fn write_records(out: &mut String, core: usize, from: Reader) -> Result<bool, Al
 fn write_logs(out: &mut String, logs: Logs) -> Result<(), AllocError>
     ensures { OnOk result (string_bytes out.new ≡ string_bytes out.old ++ logs_from logs.entry.store.now logs.entry.sizes logs.entry.sizes.cores 0) }
 {
-    for core in 0..logs.count() {
+    for core in 0..logs.cores() {
         let Ok(reader) = logs.reader(core) else {
             unreachable()
         };

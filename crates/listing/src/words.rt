@@ -10,7 +10,7 @@ fn with_digit(so_far: usize, b: u8) -> Option<usize>
         return None;
     }
     let n = so_far * 10 + usize::from(b - b'0');
-    if n <= 65535 { Some(n) } else { None }
+    (n <= 65535).then_some(n)
 }
 
 // The number that a word of digits writes, where it is at most 65,535.

@@ -34,7 +34,7 @@ fn read_counts(logs: Logs) -> Result<[u16; 4], Refusal>
     ensures { answer result ≡ outcome (gathered logs.entry.store.now logs.entry.sizes logs.entry.sizes.cores 0 no_counts) }
 {
     let mut counts = [0; 4];
-    for core in 0..logs.count() {
+    for core in 0..logs.cores() {
         counts[core] = read_through(logs.reader(core)?, None)?;
     }
     Ok(counts)
@@ -44,7 +44,7 @@ fn read_counts(logs: Logs) -> Result<[u16; 4], Refusal>
 fn hold_logs(logs: Logs, counts: &[u16; 4]) -> Result<(), Refusal>
     ensures { done_as result ≡ done (tested logs.entry.store.now logs.entry.sizes counts.now logs.entry.sizes.cores 0) }
 {
-    for core in 0..logs.count() {
+    for core in 0..logs.cores() {
         read_through(logs.reader(core)?, Some(*counts))?;
     }
     Ok(())

@@ -23,7 +23,7 @@ pub(crate) struct Tail {
     pub arcs: u16,
 }
 
-// The log of an access's core, in the store of all logs, while the access is recorded.
+// The log of a core, in the store of all logs, while begin or the core's next instruction is written to it.
 #[derive(Drop)]
 pub(crate) struct CoreLog<'a> {
     pub store: &'a mut [u8],
@@ -50,7 +50,7 @@ impl CoreLog<'_> {
         self.tail.offset = write_record(self.store, self.sizes, core, at, record).unwrap_or(at);
     }
 
-    // Writes the end record of the access.
+    // Writes the end record: as many instructions as the latest one's count.
     pub(crate) fn end(&mut self)
         requires room { self.old.tail.offset + 6 ≤ self.old.sizes.log_bytes }
         ensures same { Same self.old self.new }

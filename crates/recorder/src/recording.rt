@@ -1,5 +1,5 @@
 // The recorder: begin, and turns.
-ghost use Rattle.std.specs.Prelude.{◌≡◌, ◌+◌, ◌*◌, ◌<◌, ◌≤◌, true, [], length};
+ghost use Rattle.std.specs.Prelude.{◌≡◌, ◌+◌, ◌<◌, true, [], length};
 ghost use Rattle.records.specs.Settings.{fits, no_sizes, SurplusKept};
 ghost use Rattle.recorder.specs.Decided.{OneOutcome};
 ghost use Rattle.recorder.specs.Refusals.{book, log_in, barred};
@@ -31,7 +31,7 @@ fn begin_log(store: &mut [u8], sizes: Sizes, core: usize)
     requires inside { core < sizes.cores }
     ensures { store.new ≡ headed sizes core store.old }
 {
-    // no access yet
+    // no instruction yet: the end record says 0
     let by = Access {
         core: core as u8,
         count: 0,
@@ -76,15 +76,10 @@ impl<R: Reducer> Recorder<R> {
         ensures { tape R.Reducer.numbers result [] ≡ fresh_tape no_sizes [] }
     {
         reducer.reset();
-        let sizes = Sizes {
-            cores: 0,
-            cells: 0,
-            log_bytes: 0,
-        };
         Recorder {
             reducer,
             history: History::new(),
-            ledger: Ledger::new(sizes),
+            ledger: Ledger::new(Sizes::default()),
         }
     }
 

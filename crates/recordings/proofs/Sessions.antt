@@ -6,6 +6,7 @@ use Rattle.access_laws.specs.Recalls.{Recalls}
 use Rattle.cores.specs.Memory.{Rules, brought, stored, outcome, plain, start}
 use Rattle.records.specs.Format.{LogArc}
 use Rattle.records.specs.declared.settings.Sizes.{Sizes}
+use Rattle.logs.proofs.Rules.{all_alike}
 use Rattle.recorder.specs.Refusals.{Book, touched}
 use Rattle.recorder.specs.Sound.{no_log}
 use Rattle.recorder.specs.Turns as recorder
@@ -27,11 +28,6 @@ use Rattle.recordings.proofs.Tracking as now
 use Rattle.recordings.proofs.Turning.{Passed, passed}
 use Rattle.records.specs.Settings.{settled, no_sizes}
 
-no_count : (n k : ℕ) → ◌≡◌ {A = ℕ} (get_or (replicate n 0) k 0) 0
-no_count zero k = refl
-no_count (suc n) zero = refl
-no_count (suc n) (suc k) = no_count n k
-
 no_instruction : (n k : ℕ) (l : Log) → l.instructions ≡ 0 → (get_or (replicate n l) k no_log).instructions ≡ 0
 no_instruction zero k l q = refl
 no_instruction (suc n) zero l q = q
@@ -46,7 +42,7 @@ begins_tracking meets K z w = record {
   accepted = tt;
   cells = refl;
   states = refl;
-  counts = λ k h. no_instruction 4 k _ refl ∙ sym (no_count (length (take z.cores w.states)) k);
+  counts = λ k h. no_instruction 4 k _ refl ∙ sym (all_alike (length (take z.cores w.states)) k 0);
   position = refl;
   recording = begin;
   recalls = nothing_is_recalled_at_first;

@@ -1,14 +1,7 @@
 -- Bytes put into a store in the place of others: what is put stands there, and the rest stays.
 use Rattle.std.proofs.Common.{◌≡◌, ℕ, suc, ◌+◌, ◌-◌, ◌≤◌, List, [], ◌∷◌, ◌++◌, length, take, drop, sym, refl, ap, ◌∙◌, arith}
-use borrow.Rule.Slice.PartMut.{put_mid}
 use Rattle.std.proofs.lemmas.List.{drop-drop, drop_at, take_at, append_assoc, length-append, length-take-le, length-drop, take-append-le, drop-append-le, take-append-drop, take-take, drop-take}
 use Rattle.records.specs.Format.{splice}
-
--- a write to store[at .. at + n]
-pub put_is : (at : ℕ) (xs ys bs : List ℕ) → ys ≡ bs → put_mid at (at + length bs - at) xs ys ≡ splice at bs xs
-put_is at xs ys bs same =
-    let k : at + length bs - at ≡ length bs = omega arith in
-    rw (k, same, drop-drop (length bs) at xs)
 
 -- nothing put anywhere
 pub splice_none : (at : ℕ) (xs : List ℕ) → splice at [] xs ≡ xs

@@ -1,4 +1,4 @@
-ghost use Rattle.std.specs.Prelude.{◌≡◌, ◌+◌, ◌*◌, [], ◌∷◌, length};
+ghost use Rattle.std.specs.Prelude.{◌≡◌, length};
 ghost use Rattle.records.specs.Format.{head, arc as arc_entry, end, entry, bytes_of};
 ghost use Rattle.records.specs.Reading.{entry_at, read_as};
 

@@ -44,7 +44,7 @@ impl<'a> Logs<'a> {
     }
 
     // How many logs there are.
-    pub fn count(self) -> usize
+    pub fn cores(self) -> usize
         ensures { result ≡ self.entry.sizes.cores }
     {
         self.sizes.cores
@@ -128,7 +128,7 @@ fn with_number(table: [u16; 4], core: u8, number: u16) -> [u16; 4]
     ensures { result ≡ slice_set table core number }
 {
     let mut all = table;
-    // std's `get_mut` does not say what the table ends as
+    // the library's `get_mut` does not say what the table ends as
     if core < 4 {
         all[usize::from(core)] = number;
     }

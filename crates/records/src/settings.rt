@@ -1,8 +1,8 @@
 ghost use Rattle.std.specs.Prelude.{◌≡◌};
 ghost use Rattle.records.specs.Settings.{fits, settled};
 
-// The sizes of a session: its cores, its cells, and the bytes of each core's log.
-#[derive(Clone, Copy)]
+// The sizes of a session: its cores, its cells, and the bytes of each core's log. All 0 before any session.
+#[derive(Clone, Copy, Default)]
 pub struct Sizes {
     pub cores: usize,
     pub cells: usize,

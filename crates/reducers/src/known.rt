@@ -39,6 +39,7 @@ impl Known {
     pub(crate) fn set(&mut self, j: usize, row: Row)
         ensures { self.new.rows ≡ slice_set self.old.rows j row }
     {
+        // the library's `get_mut` does not say what the array ends as
         if j < self.rows.len() {
             self.rows[j] = row;
         }

@@ -31,6 +31,7 @@ impl Row {
     pub(crate) fn with(mut self, i: usize, number: u16) -> Row
         ensures { result.at ≡ slice_set self.at i number }
     {
+        // the library's `get_mut` does not say what the array ends as
         if i < self.at.len() {
             self.at[i] = number;
         }
@@ -63,6 +64,7 @@ impl Stamps {
         match kind {
             AccessKind::Write => self.written = row,
             AccessKind::Read => {
+                // as in `with`
                 if j < self.read.len() {
                     self.read[j] = row;
                 }

@@ -1,4 +1,4 @@
-ghost use Rattle.std.specs.Prelude.{◌≡◌, ◌<◌, ◌≤◌, [], ◌∷◌, map, length, slice_index};
+ghost use Rattle.std.specs.Prelude.{◌≡◌, ◌<◌, [], ◌∷◌, map, length, slice_index};
 ghost use Rattle.logs.specs.Lawful.{Accepted};
 ghost use Rattle.logs.specs.Session.{no_counts, done_as};
 ghost use Rattle.records.specs.Settings.{no_sizes, SurplusKept};
@@ -50,14 +50,7 @@ impl Replayer {
     pub fn new() -> Replayer
         ensures { result ≡ started no_sizes no_counts }
     {
-        start(
-            Sizes {
-                cores: 0,
-                cells: 0,
-                log_bytes: 0,
-            },
-            [0; 4],
-        )
+        start(Sizes::default(), [0; 4])
     }
 
     // Reads all logs; then a replay starts with nothing done. A refusal keeps the former replay.

@@ -1,5 +1,5 @@
 -- Opening the logs of a recording accepts them, and stands at the beginning of their replay.
-use Rattle.std.proofs.Common.{◌≡◌, ℕ, zero, suc, ◌+◌, ◌*◌, ◌<◌, ◌≤◌, true, leb, List, [], ◌∷◌, map, length, get_or, take, drop, replicate, Ok, Err, Result, sym, refl, ap, ◌∙◌, subst, mul-le-mul_right, suc-mul, arith}
+use Rattle.std.proofs.Common.{◌≡◌, ℕ, suc, ◌+◌, ◌*◌, ◌<◌, ◌≤◌, true, leb, List, [], ◌∷◌, map, length, get_or, take, drop, replicate, Ok, Err, Result, sym, ap, ◌∙◌, subst, mul-le-mul_right, suc-mul, arith}
 use Rattle.std.proofs.lemmas.List.{drop-take, take-take, length-take-le, take-replicate}
 use Rattle.std.proofs.lemmas.Bool.{cond-true, and_parts, leb-true}
 use Rattle.cores.specs.Memory.{Rules, plain, start}
@@ -13,9 +13,9 @@ use Rattle.records.specs.Settings.{fits, settled, log_of, heading_of}
 use Rattle.records.specs.declared.settings.Sizes.{Sizes}
 use Rattle.recorder.specs.Turns.{World}
 use Rattle.recorder.specs.declared.ledger.Log.{Log}
-use Rattle.recorder.specs.Sound.{no_log}
 use Rattle.recordings.specs.Sessions.{Session, Records}
 use Rattle.recordings.specs.Tracks.{logs_of}
+use Rattle.lawful_logs.proofs.Orderly.{counts_at}
 use Rattle.replayer.proofs.Following.{opening_follows}
 use Rattle.replayer.specs.Following.{Follows}
 use Rattle.replayer.specs.Steps.{found, reopened, started}
@@ -47,11 +47,6 @@ accepted_anew z counts a b q w = record {
   four = w.four;
   others = w.others;
 }
-
-counts_at : (logs : List Log) (k : ℕ) → get_or (map (λ (l : Log). l.instructions) logs) k 0 ≡ (get_or logs k no_log).instructions
-counts_at [] k = refl
-counts_at (l ∷ logs) zero = refl
-counts_at (l ∷ logs) (suc k) = counts_at logs k
 
 no_counts_are : (P : ℕ) → P ≤ 4 → take {A = ℕ} P (0 ∷ 0 ∷ 0 ∷ 0 ∷ []) ≡ replicate P 0
 no_counts_are P h = take-replicate P 4 0 h

@@ -15,6 +15,7 @@ use Rattle.replayer.specs.Groups.{waits_for}
 use Rattle.records.specs.declared.format.Source.{Source}
 use Rattle.runs.proofs.Waiting.{own_log_is_enough}
 use Rattle.runs.proofs.WorkingOrder.{choose_yes, choose_no}
+use Rattle.logs.proofs.Rules.{all_push}
 use Rattle.runs.specs.Recording.{Arc, log}
 use Rattle.runs.specs.Replay.{free, waiting}
 
@@ -22,15 +23,11 @@ abbrev pub waits_none : Option Source → Bool
 waits_none None = true
 waits_none (Some s) = false
 
-all_snoc : (P : Arc → Type 0) (l : List Arc) (a : Arc) → AllByRecursion P l → P a → AllByRecursion P (l ++ (a ∷ []))
-all_snoc P [] a h p = (p, tt)
-all_snoc P (x ∷ l) a h p = (h.0, all_snoc P l a h.1 p)
-
 -- the arcs of core j's log are to instructions of j
 own : (j : ℕ) (L : List Arc) → AllByRecursion (λ a. a.target.core ≡ j) (log j L)
 own j [] = tt
 own j (a ∷ L) = elim (cases_eq a.target.core j) [
-  | inl q ↦ subst (AllByRecursion (λ a. a.target.core ≡ j)) (sym (choose_yes (ℕ_discrete a.target.core j) (log j L ++ (a ∷ [])) (log j L) q)) (all_snoc (λ a. a.target.core ≡ j) (log j L) a (own j L) q)
+  | inl q ↦ subst (AllByRecursion (λ a. a.target.core ≡ j)) (sym (choose_yes (ℕ_discrete a.target.core j) (log j L ++ (a ∷ [])) (log j L) q)) (all_push (λ a. a.target.core ≡ j) (log j L) a (own j L) q)
   | inr n ↦ subst (AllByRecursion (λ a. a.target.core ≡ j)) (sym (choose_no (ℕ_discrete a.target.core j) (log j L ++ (a ∷ [])) (log j L) n)) (own j L)
 ]
 

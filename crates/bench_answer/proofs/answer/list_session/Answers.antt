@@ -1,23 +1,12 @@
 -- The run of a whole session is listed; the sizes fit, so that there is one.
-use Rattle.std.proofs.Common.{◌≡◌, true, [], map, length, string_bytes, ap, ◌∙◌, arith}
+use Rattle.std.proofs.Common.{◌≡◌, true, length, string_bytes, ap, ◌∙◌, arith}
 use Rattle.std.proofs.lemmas.List.{length-map}
 use Rattle.std.proofs.lemmas.Bool.{and_parts}
-use Rattle.records.specs.Settings.{fits, settled}
+use Rattle.records.specs.Settings.{fits}
 use Rattle.recorder.specs.Turns.{rules}
-use Rattle.sessions.specs.Whole.{buffers}
 use Rattle.std.proofs.lemmas.Result.{IfOk-weaker}
-use Rattle.bench_answer.proofs.Telling.{not_refused, tells}
+use Rattle.bench_answer.proofs.Telling.{tells}
 use Rattle.bench_answer.proofs.answer.list_session.Goals as goal
-
-pub unreachable-requires : goal.unreachable-requires
-unreachable-requires g c =
-    let a = c.args in
-    let t = c.record_and_replay.new in
-    let s = g.K.Core.state in
-    not_refused s g.R.Reducer.meets (rules g.K.Core.next g.K.Core.after a.text.now) a.sizes a.turns.now []
-    (buffers a.cells.now (map s a.cores.now) a.store.now) (buffers t.cells (map s t.cores) t.store) c.in-Err-Refused.field-0 c.in-Err-Refused.field-0-0
-    c.in-Err-Refused.ensures.outcome c.in-Err-Refused.field-0-is
-    (ap (λ k. settled a.sizes k (length a.cells.now) (length a.store.now)) (length-map a.cores.now s) ∙ c.requires.fitting)
 
 pub returns : goal.returns
 returns g c =

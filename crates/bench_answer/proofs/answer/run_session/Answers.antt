@@ -1,9 +1,7 @@
 -- The buffers are as long as the sizes say, and the cores stand at their starting items.
-use Rattle.std.proofs.Common.{◌≡◌, ◌*◌, map, length, vec_items, string_bytes, ap, ◌∙◌, arith}
-use Rattle.bench_answer.specs.Answer.{sizes_for}
+use Rattle.std.proofs.Common.{◌≡◌, ◌*◌, length, vec_items, ◌∙◌, arith}
 use Rattle.bench_answer.proofs.Fitting.{settles}
-use Rattle.std.proofs.lemmas.Result.{IfOk-weaker}
-use Rattle.bench_answer.proofs.Telling.{as_many, told_same}
+use Rattle.bench_answer.proofs.Telling.{as_many}
 use Rattle.bench_answer.proofs.answer.run_session.Goals as goal
 
 pub list_session-requires : goal.list_session-requires
@@ -18,13 +16,3 @@ list_session-requires g c =
       fitting = settles input.cores input.cells _ _ _ input.some_cores.0 input.some_cores.1 input.some_cells.0 input.some_cells.1 cores cells store;
       lengths = (cores, cells);
     }
-
-pub returns : goal.returns
-returns g c =
-    let input = c.args.input.now in
-    let states = ap (map g.K.Core.state) c.as_mut_slice.ensures.value ∙ c.in_ok-cores.ensures ∙ ap (map g.K.StartingCore.first) c.as_slice.ensures.value in
-    let cells = c.as_mut_slice-2.ensures.value ∙ c.in_ok-cells.ensures.items_if_clones_equal (λ y same. same) in
-    IfOk-weaker c.list_session.result _ _
-    (λ s h. told_same g.R.Reducer.meets g.K.Core.next g.K.Core.after (sizes_for input.cores input.cells) _ _ _ _ _ _ (string_bytes s) _ _
-    c.as_slice-2.ensures.value cells states c.as_slice-3.ensures.value h)
-    c.list_session.ensures

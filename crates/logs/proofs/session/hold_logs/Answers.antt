@@ -13,7 +13,7 @@ returns-in_err-read_through c =
     let f = session_fault c.in_err-read_through.field-0.0 in
     let q = read_here l.store.now l.sizes j c.in_ok-reader.field-0 c.in_ok-reader.ensures (Some c.args.counts.now) (Err f) c.in_err-read_through.ensures in
     ap done_as (p.1 ∙ ap Err p.2)
-    ∙ ap done (sym (tested_fault l.store.now l.sizes j c.args.counts.now f (omega (arith, c.count-core-end.ensures)) q) ∙ c.loop-core.invariant)
+    ∙ ap done (sym (tested_fault l.store.now l.sizes j c.args.counts.now f (omega (arith, c.cores-core-end.ensures)) q) ∙ c.loop-core.invariant)
 
 pub loop-core-preserved : goal.loop-core-preserved
 loop-core-preserved c =
@@ -21,8 +21,8 @@ loop-core-preserved c =
     let j = c.loop-core.core in
     let n = c.in_ok-read_through.field-0 in
     let q = read_here l.store.now l.sizes j c.in_ok-reader.field-0 c.in_ok-reader.ensures (Some c.args.counts.now) (Ok n) c.in_ok-read_through.ensures in
-    sym (tested_more l.store.now l.sizes j c.args.counts.now n (omega (arith, c.count-core-end.ensures)) q) ∙ c.loop-core.invariant
+    sym (tested_more l.store.now l.sizes j c.args.counts.now n (omega (arith, c.cores-core-end.ensures)) q) ∙ c.loop-core.invariant
 
 pub returns : goal.returns
 returns c =
-    ap done (sym (tested_all c.args.logs.store.now c.args.logs.sizes c.loop-core.core c.args.counts.now (omega (arith, c.count-core-end.ensures))) ∙ c.loop-core.invariant)
+    ap done (sym (tested_all c.args.logs.store.now c.args.logs.sizes c.loop-core.core c.args.counts.now (omega (arith, c.cores-core-end.ensures))) ∙ c.loop-core.invariant)

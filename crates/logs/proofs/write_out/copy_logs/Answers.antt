@@ -11,11 +11,11 @@ loop-core-preserved c =
     let store = c.args.logs.store.now in
     let z = c.args.logs.sizes in
     let j = c.loop-core.core in
-    let v = new_reader store z j c.in_ok-reader.field-0 c.in_ok-reader.ensures in
+    let v = new_reader store z j c.in-Ok.reader c.in-Ok.ensures in
     let here : c.copy_records.new.out ≡ copied z j 0 (reading_from _).entries c.loop-core.out =
     c.copy_records.ensures ∙ ap (λ v. copied z j v.cursor (reading_from v).entries c.loop-core.out) v in
-    ap (all_copied store z _ _) here ∙ sym (copied_more store z j c.loop-core.out (omega (arith, c.count-core-end.ensures))) ∙ c.loop-core.invariant
+    ap (all_copied store z _ _) here ∙ sym (copied_more store z j c.loop-core.out (omega (arith, c.cores-core-end.ensures))) ∙ c.loop-core.invariant
 
-pub returns-clause-bytes : goal.returns-clause-bytes
-returns-clause-bytes c =
-    sym (copied_all c.args.logs.store.now c.args.logs.sizes c.loop-core.core c.loop-core.out (omega (arith, c.count-core-end.ensures))) ∙ c.loop-core.invariant
+pub returns : goal.returns
+returns c =
+    sym (copied_all c.args.logs.store.now c.args.logs.sizes c.loop-core.core c.loop-core.out (omega (arith, c.cores-core-end.ensures))) ∙ c.loop-core.invariant
