@@ -13,6 +13,7 @@ mod tests {
     use reducers::interface::Reducer;
     use reducers::keep_all::KeepAll;
     use reducers::pairwise::Pairwise;
+    use std::alloc::{AllocError, Global};
     use std::process::Abort;
     use std::test::*;
 
@@ -435,5 +436,177 @@ mod tests {
         begun_again(&rt, Exact::new())?;
         begun_again(&rt, Pairwise::new())?;
         begun_again(&rt, KeepAll)
+    }
+
+    // Four cores and 256 cells: cores 0, 1 and 2 read cell 255, core 3 writes it, and has no room for another access.
+    fn largest_session(
+        rt: &impl Abort,
+        cores: &mut [ScriptCore; 4],
+        cells: &mut [u16; 256],
+        store: &mut [u8; 132],
+    ) -> Result<(), Fail> {
+        let text = b"\x01\xff\0\0\x02\xff\x01\x02\x01\xff\0\0";
+        let mut recorder = Recorder::new(Exact::new());
+        assert_eq!(rt;
+            begin(&mut recorder, sizes(4, 256, 33), cores, cells, store),
+            0
+        );
+        let turns = [
+            (0, Ok((read(255), 1, 5, 0))),
+            (1, Ok((read(255), 1, 5, 0))),
+            (2, Ok((read(255), 1, 5, 0))),
+            (3, Ok((write(255, 258), 1, 0, 3))),
+            (3, Err(5)),
+            (4, Err(1)),
+        ];
+        for (core, expected) in turns {
+            assert_eq!(rt;
+                turn(&mut recorder, text, cores, cells, store, core),
+                expected
+            );
+        }
+        Ok(())
+    }
+
+    #[test]
+    fn four_cores_and_256_cells(rt: HostRuntime) -> Result<(), Fail> {
+        let mut cores = [ScriptCore::new(0); 4];
+        cores[3] = ScriptCore::new(1);
+        let mut cells = [0; 256];
+        cells[255] = 5;
+        let mut store = [0xee; 132];
+        largest_session(&rt, &mut cores, &mut cells, &mut store)?;
+        assert_eq!(rt; [cells[0], cells[254], cells[255]], [0, 0, 258]);
+        assert!(rt; store[0..13].starts_with(b"HC\0\x04\x01\0ED\0\x01\0\0\xee"));
+        assert!(rt; store[33..46].starts_with(b"HC\x01\x04\x01\0ED\0\x01\0\0\xee"));
+        assert!(rt; store[66..79].starts_with(b"HC\x02\x04\x01\0ED\0\x01\0\0\xee"));
+        let fourth =
+            b"HC\x03\x04\x01\0AR\x02\0\x01\0\x01AR\x01\0\x01\0\x01AR\0\0\x01\0\x01ED\0\x01\0\x03";
+        assert!(rt; store[99..132].starts_with(fourth));
+        Ok(())
+    }
+
+    // Both cores write cell 0 in turn, so that each turn but the first logs an arc; three fill a log of 33 bytes.
+    // A local request is then still taken, an access no more.
+    fn full_logs<R: Reducer + Drop>(rt: &impl Abort, reducer: R) -> Result<(), Fail> {
+        let text = b"\x02\0\0\x01\x02\0\0\x02\x02\0\0\x03\x02\0\0\x04\0\0\0\0\x01\0\0\0";
+        let mut bench = Bench::new(reducer, [0, 1, 0]);
+        let turns = [
+            (0, Ok((write(0, 1), 1, 0, 0))),
+            (1, Ok((write(0, 2), 1, 0, 1))),
+            (0, Ok((write(0, 2), 2, 0, 1))),
+            (1, Ok((write(0, 3), 2, 0, 1))),
+            (0, Ok((write(0, 3), 3, 0, 1))),
+            (1, Ok((write(0, 4), 3, 0, 1))),
+            (0, Ok((write(0, 4), 4, 0, 1))),
+            (1, Ok((Request::Local, 4, 0, 0))),
+            (1, Err(5)),
+            (0, Ok((Request::Local, 5, 0, 0))),
+            (0, Err(5)),
+            (1, Err(5)),
+        ];
+        bench.session(rt, sizes(2, 1, LOG), text, turns)?;
+        assert!(rt;
+            bench.logged([
+                b"HC\0\x02\0\x01AR\x01\0\x01\0\x02AR\x01\0\x02\0\x03AR\x01\0\x03\0\x04ED\0\x05\0\x03",
+                b"HC\x01\x02\0\x01AR\0\0\x01\0\x01AR\0\0\x02\0\x02AR\0\0\x03\0\x03ED\0\x04\0\x03",
+                b"",
+            ])
+        );
+        assert_eq!(rt; bench.cells, [4, 0]);
+        Ok(())
+    }
+
+    #[test]
+    fn logs_get_full(rt: HostRuntime) -> Result<(), Fail> {
+        full_logs(&rt, Exact::new())?;
+        full_logs(&rt, Pairwise::new())?;
+        full_logs(&rt, KeepAll)
+    }
+
+    // Items that exchange 1, 2, 3 and so on with cell 0.
+    fn exchanges(heap: Global, count: u16) -> Result<Vec<u8>, AllocError> {
+        let mut text = Vec::new(heap);
+        for number in 1..=count {
+            let [high, low] = number.to_be_bytes();
+            text.extend_from_slice(&[3, 0, high, low])?;
+        }
+        Ok(text)
+    }
+
+    // A turn of each core for each number up to 2338: core 0 brings the number before it, core 1 the same number.
+    fn take_turns(
+        rt: &impl Abort,
+        recorder: &mut Recorder<KeepAll>,
+        text: &[u8],
+        cores: &mut [ScriptCore],
+        cells: &mut [u16],
+        store: &mut [u8],
+    ) -> Result<(), Fail> {
+        for number in 1..=2338 {
+            let exchange = Request::Exchange { cell: 0, number };
+            let arcs = u16::from(number > 1);
+            let first = turn(recorder, text, cores, cells, store, 0);
+            assert_eq!(rt; first, Ok((exchange, number, number - 1, arcs)));
+            let second = turn(recorder, text, cores, cells, store, 1);
+            assert_eq!(rt; second, Ok((exchange, number, number, 1)));
+        }
+        Ok(())
+    }
+
+    // Each turn but the first logs an arc. A log of 16,384 bytes has room for 2,338: head and end take 12 bytes,
+    // these arcs 7 * 2338 = 16366, and 6 bytes are left, where an access needs 7. So core 0 makes 2,339 accesses.
+    fn fill(
+        rt: &impl Abort,
+        text: &[u8],
+        cores: &mut [ScriptCore],
+        cells: &mut [u16],
+        store: &mut [u8],
+    ) -> Result<(), Fail> {
+        let mut recorder = Recorder::new(KeepAll);
+        assert_eq!(rt;
+            begin(&mut recorder, sizes(2, 1, 16384), cores, cells, store),
+            0
+        );
+        take_turns(rt, &mut recorder, text, cores, cells, store)?;
+        let full = turn(&mut recorder, text, cores, cells, store, 1);
+        let exchange = Request::Exchange {
+            cell: 0,
+            number: 2339,
+        };
+        let last = turn(&mut recorder, text, cores, cells, store, 0);
+        assert_eq!(rt; [full, last], [Err(5), Ok((exchange, 2339, 2338, 1))]);
+        let first = turn(&mut recorder, text, cores, cells, store, 0);
+        let second = turn(&mut recorder, text, cores, cells, store, 1);
+        assert_eq!(rt; [first, second], [Err(5), Err(5)]);
+        Ok(())
+    }
+
+    fn has_at(store: &[u8], from: usize, bytes: &[u8]) -> bool {
+        store
+            .get(from..)
+            .is_some_and(|rest| rest.starts_with(bytes))
+    }
+
+    #[test]
+    fn the_largest_logs_get_full(rt: HostRuntime) -> Result<(), Fail> {
+        let text = exchanges(rt.alloc(), 2340)?;
+        let mut cores = [ScriptCore::new(0); 2];
+        let mut cells = [0];
+        let mut store = vec![in rt.alloc(); 0xeeu8; 32769]?;
+        fill(
+            &rt,
+            text.as_slice(),
+            &mut cores,
+            &mut cells,
+            store.as_mut_slice(),
+        )?;
+        assert_eq!(rt; cells, [2339]);
+        // each log's last arc and end, and the bytes behind
+        let first = b"AR\x01\x09\x22\x09\x23ED\x09\x23\x09\x22\xee\xee\xee\xee\xee\xeeHC\x01";
+        assert!(rt; has_at(store.as_slice(), 16365, first));
+        let second = b"AR\0\x09\x22\x09\x22ED\x09\x22\x09\x22\xee\xee\xee\xee\xee\xee\xee";
+        assert!(rt; has_at(store.as_slice(), 32749, second));
+        Ok(())
     }
 }

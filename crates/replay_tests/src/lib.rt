@@ -3,7 +3,8 @@
 
 #[cfg(test)]
 mod tests {
-    use cores::interface::{Request, StartingCore};
+    use cores::interface::{Core, Request, StartingCore};
+    use cores::register::RegisterCore;
     use cores::script::ScriptCore;
     use recorder::recording::Recorder;
     use records::faults::{ByteFault, Location, RecordFault, Refusal, SessionFault};
@@ -14,6 +15,7 @@ mod tests {
     use reducers::pairwise::Pairwise;
     use replayer::answers::{Ended, StepRefusal};
     use replayer::replay::Replayer;
+    use std::alloc::{AllocError, Global};
     use std::process::Abort;
     use std::test::*;
 
@@ -88,10 +90,10 @@ mod tests {
     // The request, its count and the number that it brought.
     type Answer = Result<(Request, u16, u16), Code>;
 
-    fn step(
+    fn step<K: Core>(
         replayer: &mut Replayer,
         text: &[u8],
-        cores: &mut [ScriptCore],
+        cores: &mut [K],
         cells: &mut [u16],
         store: &[u8],
         j: usize,
@@ -99,6 +101,20 @@ mod tests {
         match replayer.step(text, cores, cells, store, j) {
             Ok(done) => Ok((done.request, done.count, done.number)),
             Err(refusal) => Err(step_code(refusal)),
+        }
+    }
+
+    // Opens, and gives 0 or a refusal's code.
+    fn open<K>(
+        replayer: &mut Replayer,
+        sizes: Sizes,
+        cores: &[K],
+        cells: &[u16],
+        store: &[u8],
+    ) -> usize {
+        match replayer.open(sizes, cores, cells, store) {
+            Ok(_) => 0,
+            Err(refusal) => code(refusal)[0],
         }
     }
 
@@ -410,6 +426,225 @@ mod tests {
         ];
         bench.play(&rt, WORKED, steps)?;
         assert_eq!(rt; bench.run(), (Ok((true, 0)), [7, 0]));
+        Ok(())
+    }
+
+    // The most cores and cells, and the least log bytes with which a core can log an arc from each other one.
+    const LARGEST: Sizes = Sizes {
+        cores: 4,
+        cells: 256,
+        log_bytes: 33,
+    };
+
+    fn four_cores() -> [ScriptCore; 4] {
+        let mut cores = [ScriptCore::new(0); 4];
+        cores[3] = ScriptCore::new(1);
+        cores
+    }
+
+    fn cells_with_the_last(number: u16) -> [u16; 256] {
+        let mut cells = [0; 256];
+        cells[255] = number;
+        cells
+    }
+
+    // One turn of each core, in order.
+    fn record_four(
+        rt: &impl Abort,
+        text: &[u8],
+        cells: &mut [u16],
+        store: &mut [u8],
+    ) -> Result<(), Fail> {
+        let mut recorder = Recorder::new(KeepAll);
+        let mut cores = four_cores();
+        assert!(rt; recorder.begin(LARGEST, &cores, cells, store).is_ok());
+        for j in 0..4 {
+            assert!(rt; recorder.turn(text, &mut cores, cells, store, j).is_ok());
+        }
+        Ok(())
+    }
+
+    // Cores 0, 1 and 2 read cell 255, then core 3 writes it: its arcs are from 2:1, 1:1 and 0:1, in this order.
+    fn step_four(
+        rt: &impl Abort,
+        replayer: &mut Replayer,
+        text: &[u8],
+        cores: &mut [ScriptCore],
+        cells: &mut [u16],
+        store: &[u8],
+    ) -> Result<(), Fail> {
+        assert_eq!(rt; open(replayer, LARGEST, cores, cells, store), 0);
+        let steps = [
+            (3, Err([6, 2, 1, 0, 0])),
+            (2, Ok((read(255), 1, 5))),
+            (3, Err([6, 1, 1, 0, 0])),
+            (0, Ok((read(255), 1, 5))),
+            (3, Err([6, 1, 1, 0, 0])),
+            (1, Ok((read(255), 1, 5))),
+            (3, Ok((write(255, 258), 1, 0))),
+            (3, Err([7, 0, 0, 0, 0])),
+            (4, Err([1, 0, 0, 0, 0])),
+        ];
+        for (core, expected) in steps {
+            assert_eq!(rt; step(replayer, text, cores, cells, store, core), expected);
+        }
+        Ok(())
+    }
+
+    #[test]
+    fn four_cores_and_256_cells(rt: HostRuntime) -> Result<(), Fail> {
+        let text = b"\x01\xff\0\0\x02\xff\x01\x02";
+        let mut store = [0; 132];
+        let mut cells = cells_with_the_last(5);
+        record_four(&rt, text, &mut cells, &mut store)?;
+        assert!(rt; cells == cells_with_the_last(258));
+        let mut replayer = Replayer::new();
+        let mut cores = four_cores();
+        cells = cells_with_the_last(5);
+        step_four(&rt, &mut replayer, text, &mut cores, &mut cells, &store)?;
+        assert!(rt; cells == cells_with_the_last(258));
+        cores = four_cores();
+        cells = cells_with_the_last(5);
+        assert_eq!(rt; open(&mut replayer, LARGEST, &cores, &cells, &store), 0);
+        let run = replayer.run(text, &mut cores, &mut cells, &store);
+        assert_eq!(rt; outcome(run), Ok((true, 4)));
+        assert!(rt; cells == cells_with_the_last(258));
+        Ok(())
+    }
+
+    // Items 0 and 1 of a register core: set register 0 to 0, and go to item 0 if it is 0.
+    const ENDLESS: &[u8; 8] = b"\x04\0\0\0\x07\0\0\0";
+
+    // As many turns as a core can be given.
+    fn record_endless(rt: &impl Abort, store: &mut [u8]) -> Result<(), Fail> {
+        let mut recorder = Recorder::new(Exact::new());
+        let mut cores = [RegisterCore::new(0)];
+        let mut cells = [3];
+        assert!(rt;
+            recorder
+                .begin(sizes(1, 1, 12), &cores, &cells, store)
+                .is_ok()
+        );
+        for _ in 0..65535 {
+            assert!(rt;
+                recorder
+                    .turn(ENDLESS, &mut cores, &mut cells, store, 0)
+                    .is_ok()
+            );
+        }
+        Ok(())
+    }
+
+    #[test]
+    fn all_counts_are_replayed(rt: HostRuntime) -> Result<(), Fail> {
+        let mut store = [0; 12];
+        record_endless(&rt, &mut store)?;
+        let mut replayer = Replayer::new();
+        let mut cores = [RegisterCore::new(0)];
+        let mut cells = [3];
+        assert_eq!(rt;
+            open(&mut replayer, sizes(1, 1, 12), &cores, &cells, &store),
+            0
+        );
+        let run = replayer.run(ENDLESS, &mut cores, &mut cells, &store);
+        assert_eq!(rt; outcome(run), Ok((true, 65535)));
+        let more = step(&mut replayer, ENDLESS, &mut cores, &mut cells, &store, 0);
+        assert_eq!(rt; more, Err([7, 0, 0, 0, 0]));
+        assert_eq!(rt; cells, [3]);
+        Ok(())
+    }
+
+    // Two logs of 16,384 bytes: head and end take 12, and 2,338 arcs of 7 bytes leave 6, where an access needs 7.
+    const FULL: Sizes = Sizes {
+        cores: 2,
+        cells: 1,
+        log_bytes: 16384,
+    };
+
+    // Items that exchange 1, 2, 3 and so on with cell 0.
+    fn exchanges(heap: Global, count: u16) -> Result<Vec<u8>, AllocError> {
+        let mut text = Vec::new(heap);
+        for number in 1..=count {
+            let [high, low] = number.to_be_bytes();
+            text.extend_from_slice(&[3, 0, high, low])?;
+        }
+        Ok(text)
+    }
+
+    // The two cores take turns until both logs are full. Each turn but the first logs an arc: 2,339 turns of core 0
+    // and 2,338 of core 1 are accepted.
+    fn fill(
+        rt: &impl Abort,
+        text: &[u8],
+        cores: &mut [ScriptCore],
+        cells: &mut [u16],
+        store: &mut [u8],
+    ) -> Result<(), Fail> {
+        let mut recorder = Recorder::new(KeepAll);
+        assert!(rt; recorder.begin(FULL, cores, cells, store).is_ok());
+        for _ in 0..2338 {
+            assert!(rt; recorder.turn(text, cores, cells, store, 0).is_ok());
+            assert!(rt; recorder.turn(text, cores, cells, store, 1).is_ok());
+        }
+        assert!(rt; recorder.turn(text, cores, cells, store, 0).is_ok());
+        assert!(rt; recorder.turn(text, cores, cells, store, 0).is_err());
+        assert!(rt; recorder.turn(text, cores, cells, store, 1).is_err());
+        Ok(())
+    }
+
+    // A thousand steps of each core: core 0 brings the number before its own, core 1 the same number,
+    // and each waits for the other.
+    fn step_full(
+        rt: &impl Abort,
+        replayer: &mut Replayer,
+        text: &[u8],
+        cores: &mut [ScriptCore],
+        cells: &mut [u16],
+        store: &[u8],
+    ) -> Result<(), Fail> {
+        for number in 1..=1000 {
+            let count = number as usize;
+            let exchange = Request::Exchange { cell: 0, number };
+            let waits = step(replayer, text, cores, cells, store, 1);
+            assert_eq!(rt; waits, Err([6, 0, count, 0, 0]));
+            let first = step(replayer, text, cores, cells, store, 0);
+            assert_eq!(rt; first, Ok((exchange, number, number - 1)));
+            let waits = step(replayer, text, cores, cells, store, 0);
+            assert_eq!(rt; waits, Err([6, 1, count, 0, 0]));
+            let second = step(replayer, text, cores, cells, store, 1);
+            assert_eq!(rt; second, Ok((exchange, number, number)));
+        }
+        Ok(())
+    }
+
+    // The logs that the two cores fill from these items.
+    fn full_store(rt: &impl Abort, heap: Global, text: &[u8]) -> Result<Vec<u8>, Fail> {
+        let mut cores = [ScriptCore::new(0); 2];
+        let mut cells = [0];
+        let mut store = vec![in heap; 0u8; 32768]?;
+        fill(rt, text, &mut cores, &mut cells, store.as_mut_slice())?;
+        assert_eq!(rt; cells, [2339]);
+        Ok(store)
+    }
+
+    #[test]
+    fn full_logs_are_replayed(rt: HostRuntime) -> Result<(), Fail> {
+        let items = exchanges(rt.alloc(), 2340)?;
+        let text = items.as_slice();
+        let full = full_store(&rt, rt.alloc(), text)?;
+        let store = full.as_slice();
+        let mut replayer = Replayer::new();
+        let mut cores = [ScriptCore::new(0); 2];
+        let mut cells = [0];
+        assert_eq!(rt; open(&mut replayer, FULL, &cores, &cells, store), 0);
+        let whole = replayer.run(text, &mut cores, &mut cells, store);
+        assert_eq!(rt; (outcome(whole), cells), (Ok((true, 4677)), [2339]));
+        cores = [ScriptCore::new(0); 2];
+        cells = [0];
+        assert_eq!(rt; open(&mut replayer, FULL, &cores, &cells, store), 0);
+        step_full(&rt, &mut replayer, text, &mut cores, &mut cells, store)?;
+        let rest = replayer.run(text, &mut cores, &mut cells, store);
+        assert_eq!(rt; (outcome(rest), cells), (Ok((true, 2677)), [2339]));
         Ok(())
     }
 }

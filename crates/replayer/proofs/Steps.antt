@@ -19,7 +19,7 @@ use Rattle.records.specs.declared.format.Source.{Source}
 use Rattle.replayer.specs.declared.replay.Replayer.{Replayer}
 use Rattle.replayer.specs.Answers.{step_refusal_from, step_refusal, wait_numbers, done_numbers}
 use Rattle.replayer.specs.Groups.{read_group}
-use Rattle.replayer.specs.Steps.{Outcome, behind_head, advanced, ahead, freed, passed, Bars, cleared, MayGo, refused, acted, asked, gone, stepped}
+use Rattle.replayer.specs.Steps.{Outcome, behind_head, advanced, ahead, freed, passed, Bars, cleared, MayGo, WentOn, refused, acted, asked, gone, stepped}
 
 -- the same numbers, whether a reader or a step is refused
 pub same_refusal : (e : Refusal) → step_refusal (step_refusal_from e) ≡ refusal e
@@ -79,12 +79,8 @@ module _ (R : Replayer) (cores cells : ℕ) (store : List ℕ) (j : ℕ) where
         pub faulty : (e : Refusal) → Err (refusal e) ≡ ahead R store j → Err (step_refusal (step_refusal_from e)) ≡ verdict
         faulty e q = ap Err (same_refusal e) ∙ goes (Err (refusal e)) q
 
-        module _ (G : Group) (read : Ok G ≡ ahead R store j) where
-          pub waiting : (s : Source) → G.waits ≡ Some s → Err (wait_numbers s) ≡ verdict
-          waiting s h = ap (λ w. freed w G.place) (sym h) ∙ goes (Ok G) read
-
-          pub free : G.waits ≡ None → Ok G.place ≡ verdict
-          free h = ap (λ w. freed w G.place) (sym h) ∙ goes (Ok G) read
+        pub read : (g : Group) → Ok g ≡ ahead R store j → passed (Ok g) ≡ verdict
+        read g q = goes (Ok g) q
 
 -- what bars a core is what the step says
 pub barred_out : (R : Replayer) (cores cells : ℕ) (store : List ℕ) (j : ℕ) (e : StepRefusal) → Bars (Err e) R cores cells (length store) j →
@@ -113,36 +109,54 @@ module _
     unfolding stepped
     goes_on x q = ap (gone next after text R cells (map state cores) j) (q ∙ ap (λ n. cleared R n (length cells) store j) (sym (length-map cores state)))
 
+    left : (says : List ℕ) {later : Replayer} → later ≡ R → ◌≡◌ {A = Outcome} (record { says = says; replayer = later; cells = cells; states = map state cores }) (still says)
+    left says same = ap (λ r. record { says = says; replayer = r; cells = cells; states = map state cores }) same
+
     pub barred : (says : List ℕ) → Err says ≡ cleared R (length cores) (length cells) store j → still says ≡ turn
     barred says q = goes_on (Err says) q
 
-    module _ (behind : SavedPlace) (clear : Ok behind ≡ cleared R (length cores) (length cells) store j) (may : MayGo R (length cores) j) where
-      there : ltb j (length (map state cores)) ≡ true
-      there = ap (ltb j) (length-map cores state) ∙ lt-ltb j (length cores) (omega (arith, may.known, may.enough))
+    module _ (g : Group) (read : passed (Ok g) ≡ cleared R (length cores) (length cells) store j) where
+      pub waiting : (s : Source) → g.waits ≡ Some s → still (wait_numbers s) ≡ turn
+      waiting s h = barred (wait_numbers s) (ap (λ w. freed w g.place) (sym h) ∙ read)
 
-      module _ (request : Request) (ask : Some request ≡ requested next text (map state cores) j) where
-        carries : asked next after text R cells (map state cores) j behind request ≡ turn
-        carries =
-            let q : Some request ≡ Some (next text (get_or (map state cores) j [])) = ask ∙ cond-true (ltb j (length (map state cores))) _ _ there in
-            let same : request ≡ next text (get_or (map state cores) j []) = cc in
-            ap (asked next after text R cells (map state cores) j behind) same ∙ goes_on (Ok behind) clear
+      module _ (may : MayGo R (length cores) j) (free : g.waits ≡ None) where
+        there : ltb j (length (map state cores)) ≡ true
+        there = ap (ltb j) (length-map cores state) ∙ lt-ltb j (length cores) (omega (arith, may.known, may.enough))
 
-        pub halted : request ≡ Halt → still (2 ∷ []) ≡ turn
-        halted h = ap (asked next after text R cells (map state cores) j behind) (sym h) ∙ carries
+        module _ (request : Request) (ask : Some request ≡ requested next text (map state cores) j) where
+          carries : asked next after text R cells (map state cores) j g.place request ≡ turn
+          carries =
+              let q : Some request ≡ Some (next text (get_or (map state cores) j [])) = ask ∙ cond-true (ltb j (length (map state cores))) _ _ there in
+              let same : request ≡ next text (get_or (map state cores) j []) = cc in
+              ap (asked next after text R cells (map state cores) j g.place) same ∙ goes_on (Ok g.place) (ap (λ w. freed w g.place) (sym free) ∙ read)
 
-        module _ (runs : request ≡ Halt → ⊥) where
-          pub no_cell : false ≡ within request R.sizes.cells → still (4 ∷ []) ≡ turn
-          no_cell h =
-              sym (cond-false (able request R.sizes.cells) _ _ (able_within request R.sizes.cells runs ∙ sym h)
-              ∙ cond-false (within request R.sizes.cells) _ _ (sym h))
-              ∙ carries
+          pub halted : request ≡ Halt → still (2 ∷ []) ≡ turn
+          halted h = ap (asked next after text R cells (map state cores) j g.place) (sym h) ∙ carries
 
-          pub done : true ≡ within request R.sizes.cells → (number : ℕ) → number ≡ brought request cells → (later : List ℕ) → later ≡ stored request cells →
-              (states : List (List ℕ)) → states ≡ told after text (map state cores) j number →
-              ◌≡◌ {A = Outcome} (record { says = done_numbers request (get_or R.done j 0 + 1) number; replayer = advanced R j behind; cells = later; states = states }) turn
-          done h number brings later stores states tells =
-              let tells' : states ≡ told after text (map state cores) j (brought request cells) = tells ∙ ap (told after text (map state cores) j) brings in
-              let is : ◌≡◌ {A = Outcome} (record { says = done_numbers request (get_or R.done j 0 + 1) number; replayer = advanced R j behind; cells = later; states = states })
-              (acted next after text R cells (map state cores) j behind request) =
-              λ i. record { says = done_numbers request (get_or R.done j 0 + 1) (brings i); replayer = advanced R j behind; cells = stores i; states = tells' i } in
-              is ∙ sym (cond-true (able request R.sizes.cells) _ _ (able_within request R.sizes.cells runs ∙ sym h)) ∙ carries
+          module _ (runs : request ≡ Halt → ⊥) where
+            pub no_cell : false ≡ within request R.sizes.cells → still (4 ∷ []) ≡ turn
+            no_cell h =
+                sym (cond-false (able request R.sizes.cells) _ _ (able_within request R.sizes.cells runs ∙ sym h)
+                ∙ cond-false (within request R.sizes.cells) _ _ (sym h))
+                ∙ carries
+
+            pub done : true ≡ within request R.sizes.cells → (number : ℕ) → number ≡ brought request cells → (later : List ℕ) → later ≡ stored request cells →
+                (states : List (List ℕ)) → states ≡ told after text (map state cores) j number →
+                ◌≡◌ {A = Outcome} (record { says = done_numbers request (get_or R.done j 0 + 1) number; replayer = advanced R j g.place; cells = later; states = states }) turn
+            done h number brings later stores states tells =
+                let tells' : states ≡ told after text (map state cores) j (brought request cells) = tells ∙ ap (told after text (map state cores) j) brings in
+                let is : ◌≡◌ {A = Outcome} (record { says = done_numbers request (get_or R.done j 0 + 1) number; replayer = advanced R j g.place; cells = later; states = states })
+                (acted next after text R cells (map state cores) j g.place request) =
+                λ i. record { says = done_numbers request (get_or R.done j 0 + 1) (brings i); replayer = advanced R j g.place; cells = stores i; states = tells' i } in
+                is ∙ sym (cond-true (able request R.sizes.cells) _ _ (able_within request R.sizes.cells runs ∙ sym h)) ∙ carries
+
+      -- a core that does not go on says why, and nothing changes
+      pub stays : MayGo R (length cores) j → (request : Request) → Some request ≡ requested next text (map state cores) j → (e : StepRefusal) (later : Replayer) →
+          WentOn (Err e) R j g request later → ◌≡◌ {A = Outcome} (record { says = step_refusal e; replayer = later; cells = cells; states = map state cores }) turn
+      stays may request ask (Waits s) later w = left (wait_numbers s) w.1 ∙ waiting s w.0
+      stays may request ask Halted later w = left (2 ∷ []) w.2 ∙ halted may w.0 request ask w.1
+      stays may request ask NoSuchCell later w = left (4 ∷ []) w.3 ∙ no_cell may w.0 request ask w.1 w.2
+      stays may request ask NoSuchCore later w = absurd w
+      stays may request ask Replayed later w = absurd w
+      stays may request ask BadSetting later w = absurd w
+      stays may request ask (LogFault f) later w = absurd w

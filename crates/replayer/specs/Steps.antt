@@ -1,6 +1,7 @@
 -- What an opening and a step come to.
-use Rattle.std.specs.Prelude.{◌≡◌, ℕ, ◌+◌, ◌<◌, ◌≤◌, true, false, cond, List, [], ◌∷◌, length, get_or, Some, None, Ok, Err, Option, Result, nat_le, slice_index, slice_index_or, slice_set}
+use Rattle.std.specs.Prelude.{◌≡◌, ◌≢◌, ℕ, ◌+◌, ◌<◌, ◌≤◌, true, false, cond, List, [], ◌∷◌, length, get_or, Some, None, Ok, Err, Option, Result, nat_le, slice_index, slice_index_or, slice_set}
 use Rattle.cores.specs.declared.interface.Request.{Request}
+use Rattle.cores.specs.declared.interface.Request.TheVariants.{Halt}
 use Rattle.cores.specs.Acting.{within, told, OthersKept}
 use Rattle.cores.specs.Memory.{able, brought, stored}
 use Rattle.records.specs.declared.reading.SavedPlace.{SavedPlace}
@@ -90,20 +91,29 @@ cleared R cores cells store j =
     (passed (ahead R store j))))
     (Err bad_setting)
 
-abbrev pub cleared_as : Result SavedPlace StepRefusal → Result SavedPlace (List ℕ)
-cleared_as (Ok behind) = Ok behind
-cleared_as (Err e) = Err (step_refusal e)
-
--- a core that may go on is one of the session, and has an instruction left
+-- a core with an instruction left is one of the session
 pub record MayGo (R : Replayer) (cores j : ℕ) : Type 0 where
   pub known : j < R.sizes.cores
   pub few : R.sizes.cores ≤ 4
   pub enough : R.sizes.cores ≤ cores
   pub more : get_or R.done j 0 < slice_index R.counts j
 
-abbrev pub Clears : Result SavedPlace StepRefusal → Replayer → ℕ → ℕ → Type 0
-Clears (Ok _) R cores j = MayGo R cores j
-Clears (Err _) R cores j = Unit {0}
+-- the arcs to the next instruction of core j, which has one left, or why there are none
+abbrev pub Grouped : Result Group StepRefusal → Replayer → ℕ → ℕ → List ℕ → ℕ → Type 0
+Grouped (Ok g) R cores cells store j = (passed (Ok g) ≡ cleared R cores cells store j) × MayGo R cores j
+Grouped (Err e) R cores cells store j = Err (step_refusal e) ≡ cleared R cores cells store j
+
+-- core j waits, halts or names no cell, in this order, and nothing changes; or else it has done one more instruction
+abbrev pub WentOn : Result ℕ StepRefusal → Replayer → ℕ → Group → Request → Replayer → Type 0
+WentOn (Ok count) R j g request later =
+    (g.waits ≡ None) × (request ≢ Halt) × (true ≡ within request R.sizes.cells) × (count ≡ slice_index R.done j + 1) × (later ≡ advanced R j g.place)
+WentOn (Err (Waits s)) R j g request later = (g.waits ≡ Some s) × (later ≡ R)
+WentOn (Err Halted) R j g request later = (g.waits ≡ None) × (request ≡ Halt) × (later ≡ R)
+WentOn (Err NoSuchCell) R j g request later = (g.waits ≡ None) × (request ≢ Halt) × (false ≡ within request R.sizes.cells) × (later ≡ R)
+WentOn (Err NoSuchCore) R j g request later = ⊥
+WentOn (Err Replayed) R j g request later = ⊥
+WentOn (Err BadSetting) R j g request later = ⊥
+WentOn (Err (LogFault f)) R j g request later = ⊥
 
 module _
     (next : List ℕ → List ℕ → Request) (after : List ℕ → List ℕ → ℕ → List ℕ)

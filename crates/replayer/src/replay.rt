@@ -3,11 +3,11 @@ ghost use Rattle.logs.specs.Lawful.{Accepted};
 ghost use Rattle.logs.specs.Session.{no_counts, done_as};
 ghost use Rattle.records.specs.Settings.{no_sizes, SurplusKept};
 ghost use Rattle.replayer.specs.Answers.{step_numbers, run_numbers};
-ghost use Rattle.replayer.specs.Steps.{started, reopened, advanced, Bars, cleared, cleared_as, Clears, stepped, StepKept};
+ghost use Rattle.replayer.specs.Steps.{started, reopened, Bars, Grouped, WentOn, stepped, StepKept};
 ghost use Rattle.replayer.specs.Runs.{left, session, circled, ran};
 
 use crate::answers::{Done, Ended, StepRefusal};
-use crate::group::read_group;
+use crate::group::{Group, read_group};
 use cores::acting::{act, cell_exists, request_of, tell_core};
 use cores::interface::{Core, Request};
 use logs::session::read_logs;
@@ -94,37 +94,43 @@ impl Replayer {
         Ok(())
     }
 
-    // The place behind the arcs to the next instruction of core `j`, if it may go on.
-    fn clear(
+    // The arcs to the next instruction of core `j`, where it has one left.
+    fn group(
         &self,
         cores: usize,
         cells: usize,
         store: &[u8],
         j: usize,
-    ) -> Result<SavedPlace, StepRefusal>
-        ensures outcome { cleared_as result ≡ cleared self.now cores cells store.now j }
-        ensures may { Clears result self.now cores j }
+    ) -> Result<Group, StepRefusal>
+        ensures { Grouped result self.now cores cells store.now j }
     {
         self.bars(cores, cells, store.len(), j)?;
         let place = self.places[j];
-        let group = read_group(store, self.sizes, j, place, &self.counts, &self.done)?;
-        match group.waits {
-            Some(source) => Err(StepRefusal::Waits(source)),
-            None => Ok(group.place),
-        }
+        Ok(read_group(store, self.sizes, j, place, &self.counts, &self.done)?)
     }
 
-    // Counts one more instruction of core `j`, whose place moves behind the arcs to it.
-    fn advance(&mut self, j: usize, behind: SavedPlace)
-        requires { (j < 4) × (slice_index self.old.done j < 65535) }
-        ensures { self.new ≡ advanced self.old j behind }
+    // Counts the next instruction of core `j`, whose place moves behind the arcs to it, and gives the count.
+    // Where a source is not done, or the request is a halt or names no cell, nothing changes.
+    fn go_on(&mut self, j: usize, group: Group, request: Request) -> Result<u16, StepRefusal>
+        requires { (j < 4) × (slice_index self.old.done j < slice_index self.old.counts j) }
+        ensures { WentOn result self.old j group request self.new }
     {
+        if let Some(source) = group.waits {
+            return Err(StepRefusal::Waits(source));
+        }
+        if request == Request::Halt {
+            return Err(StepRefusal::Halted);
+        }
+        if !cell_exists(request, self.sizes.cells) {
+            return Err(StepRefusal::NoSuchCell);
+        }
         self.done[j] += 1;
-        self.places[j] = behind;
+        self.places[j] = group.place;
+        Ok(self.done[j])
     }
 
-    // One step of core `j`: the arcs to its next instruction are read, and where the source of each is done,
-    // the core asks, memory acts and the core is told. A refused or waiting step changes nothing.
+    // One step of core `j`: the arcs to its next instruction are read and the core is asked, and where the source
+    // of each arc is done, memory acts and the core is told. A refused or waiting step changes nothing.
     pub fn step<K: Core>(
         &mut self,
         text: &[u8],
@@ -137,19 +143,12 @@ impl Replayer {
         ensures others { StepKept result j cores.old cores.new }
         ensures surplus { SurplusKept self.old.sizes cores.old cores.new cells.old cells.new }
     {
-        let behind = self.clear(cores.len(), cells.len(), store, j)?;
+        let group = self.group(cores.len(), cells.len(), store, j)?;
         // there are as many cores as the sizes say, so core `j` is one of them
         let request = request_of(text, cores, j).ok_or(StepRefusal::NoSuchCore)?;
-        if request == Request::Halt {
-            return Err(StepRefusal::Halted);
-        }
-        if !cell_exists(request, self.sizes.cells) {
-            return Err(StepRefusal::NoSuchCell);
-        }
-        let count = self.done[j] + 1;
+        let count = self.go_on(j, group, request)?;
         let number = act(request, cells);
         tell_core(text, cores, j, number);
-        self.advance(j, behind);
         Ok(Done {
             request,
             count,
