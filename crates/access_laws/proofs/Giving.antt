@@ -1,10 +1,13 @@
 -- A history that recalls a run gives each access the run's candidates.
-use Rattle.std.proofs.Common.{◌≡◌, ℕ, zero, suc, ◌+◌, ◌-◌, ◌<◌, ◌≤◌, Bool, true, false, cond, ◌&&◌, eqb, ltb, leb, ◌≢◌, ◌⊎◌, List, [], ◌∷◌, get_or, Some, None, Option, sym, refl, ap, ◌∙◌, subst, inl, inr, arith}
+use Rattle.std.proofs.Common.{◌≡◌, ℕ, zero, suc, ◌-◌, ◌<◌, ◌≤◌, Bool, true, false, cond, ◌&&◌, eqb, ltb, leb, ◌≢◌, ◌⊎◌, List, [], ◌∷◌, get_or, Some, None, Option, sym, refl, ap, ◌∙◌, subst, inl, inr, arith}
 use mathlib.Core.Option.{none, some, none-ne-some, some-injective}
 use mathlib.Core.Option as of_run
 use native.Mathlib.Decide.{ℕ_discrete}
-use Rattle.std.proofs.lemmas.Bool.{and_from, lt-ltb, le-ltb, le-leb, lt-leb, eq-eqb, ne_eqb, cond-true, cond-false, cases_lt, false≢true}
+use Rattle.std.proofs.lemmas.Bool.{and_from, lt-ltb, le-leb, lt-leb, eq-eqb, ne_eqb, cond-true, cond-false, cases_lt, false≢true}
+use Rattle.std.proofs.lemmas.Bool.Decides.{nat_tests}
 use Rattle.std.specs.List.{AllByRecursion}
+use Rattle.accesses.proofs.Order.{Pairwise}
+use Rattle.accesses.proofs.Others.{other_differs, other_rises}
 use Rattle.reducers.specs.declared.interface.AccessKind.{AccessKind}
 use Rattle.reducers.specs.declared.interface.AccessKind.TheVariants.{Read, Write}
 use Rattle.accesses.specs.declared.access.Access.{Access}
@@ -16,12 +19,12 @@ use Rattle.runs.proofs.CandidatesCover.{cases}
 use Rattle.runs.proofs.NewestFirst.{position_inj, given_met, newest_first}
 use Rattle.runs.proofs.WorkingOrder.{choose_yes, choose_no, if_same_cond}
 use Rattle.runs.specs.Candidates as run_candidates
-use Rattle.runs.specs.Candidates.{last_write, latest_read, made_by, or_else, candidate, candidates}
+use Rattle.runs.specs.Candidates.{last_write, latest_read, made_by, or_else, candidate}
 use Rattle.runs.specs.Positions.{position, Newest}
 use Rattle.runs.specs.Recording.{In}
 use Rattle.runs.specs.Runs.{Event, Instr, Run, ev, read, write, done}
 use Rattle.access_laws.specs.Recalls.{Is, SameWrite, SameRead, Recalls, as_run, given, CandidatesAreTheRuns}
-use Rattle.access_laws.proofs.Ordering.{sorted_in, sorted_out, Distinct, Apart, Good, sorted_falls}
+use Rattle.access_laws.proofs.Ordering.{sorted_in, sorted_out, PositionsDiffer, Good, sorted_falls}
 
 module _ (r : Run) where
   -- what the history gives for a core is what the run gives
@@ -108,7 +111,7 @@ module _ (r : Run) where
     each_good (o ∷ os) (k ∷ ks) h = (good_one o (candidate r e k) h.0, each_good os ks h.1)
 
     -- from different cores
-    apart_two : (o p : Option Candidate) (k l : ℕ) (s t : of_run.Option run_candidates.Candidate) → candidate r e k ≡ s → candidate r e l ≡ t → Gives o s → Gives p t → k ≢ l → Distinct o p
+    apart_two : (o p : Option Candidate) (k l : ℕ) (s t : of_run.Option run_candidates.Candidate) → candidate r e k ≡ s → candidate r e l ≡ t → Gives o s → Gives p t → k ≢ l → PositionsDiffer o p
     apart_two None p k l s t a b g h n = tt
     apart_two (Some x) None k l s t a b g h n = tt
     apart_two (Some x) (Some y) k l none t a b g h n = absurd g
@@ -120,38 +123,11 @@ module _ (r : Run) where
         n (sym (cases r e k u a).core ∙ ap (λ x. x.core) same ∙ (cases r e l v b).core)
 
 -- the cores other than j
-other_below : (j k : ℕ) → ltb k j ≡ true → other j k ≡ k
-other_below j k q = cond-true (ltb k j) k (k + 1) q
-
-other_above : (j k : ℕ) → ltb k j ≡ false → other j k ≡ k + 1
-other_above j k q = cond-false (ltb k j) k (k + 1) q
-
-abbrev Other : ℕ → ℕ → Type 0
-Other j k = ((k < j) × (other j k ≡ k)) ⊎ ((j ≤ k) × (other j k ≡ k + 1))
-
-other_cases : (j k : ℕ) → Other j k
-other_cases j k = elim (cases_lt k j) [ inl h ↦ inl (h, other_below j k (lt-ltb k j h)) | inr h ↦ inr (h, other_above j k (le-ltb k j h)) ]
-
-other_differs : (j k : ℕ) → other j k ≡ j → ⊥
-other_differs j k q = elim (other_cases j k) [ inl p ↦ omega (arith, p.0, p.1) | inr p ↦ omega (arith, p.0, p.1) ]
-
 other_small : (j k : ℕ) → k < 3 → other j k < 4
-other_small j k h = elim (other_cases j k) [ inl p ↦ omega (arith, p.1) | inr p ↦ omega (arith, p.1) ]
-
-other_rises : (j k l : ℕ) → k < l → other j k ≡ other j l → ⊥
-other_rises j k l h q = elim (other_cases j k) [
-  | inl p ↦ elim (other_cases j l) [ inl s ↦ omega (arith, p.1, s.1) | inr s ↦ omega (arith, p.0, p.1, s.0, s.1) ]
-  | inr p ↦ elim (other_cases j l) [ inl s ↦ omega (arith, p.0, p.1, s.0, s.1) | inr s ↦ omega (arith, p.1, s.1) ]
-]
+other_small j k h = grind (arith, nat_tests)
 
 other_reaches : (i j : ℕ) → i < 4 → j < 4 → (i ≡ j → ⊥) → (k : ℕ) × (k < 3) × (i ≡ other j k)
-other_reaches i j h l n = elim (cases_lt i j) [
-  | inl s ↦ (i, omega arith, sym (other_below j i (lt-ltb i j s)))
-  | inr s ↦ elim (cases_lt j i) [
-    | inl t ↦ (i - 1, omega arith, (let e : i ≡ i - 1 + 1 = omega arith in e ∙ sym (other_above j (i - 1) (le-ltb (i - 1) j (omega arith)))))
-    | inr t ↦ absurd (n (omega arith))
-  ]
-]
+other_reaches i j h l n = elim (cases_lt i j) [ inl s ↦ (i, omega arith, grind (arith, nat_tests)) | inr s ↦ (i - 1, omega arith, grind (arith, nat_tests)) ]
 
 module _ (r : Run) (cells : List CellHistory) (P j c : ℕ) (w : Recalls r cells) (four : P ≤ 4) (mine : j < P) (inside : c < 256) (few : (k : ℕ) → P ≤ k → done r k ≡ 0) where
   abbrev here : CellHistory
@@ -196,11 +172,11 @@ module _ (r : Run) (cells : List CellHistory) (P j c : ℕ) (w : Recalls r cells
   each : Each r e three others
   each = (one_gives 0 (omega arith), (one_gives 1 (omega arith), (one_gives 2 (omega arith), tt)))
 
-  two_apart : (k l : ℕ) → k < l → l < 3 → Distinct (f (other j k)) (f (other j l))
+  two_apart : (k l : ℕ) → k < l → l < 3 → PositionsDiffer (f (other j k)) (f (other j l))
   two_apart k l h m =
-      apart_two r e (f (other j k)) (f (other j l)) (other j k) (other j l) _ _ refl refl (one_gives k (omega arith)) (one_gives l m) (other_rises j k l h)
+      apart_two r e (f (other j k)) (f (other j l)) (other j k) (other j l) _ _ refl refl (one_gives k (omega arith)) (one_gives l m) (λ q. omega (arith, q, other_rises j k l h))
 
-  all_apart : Apart three
+  all_apart : Pairwise PositionsDiffer three
   all_apart = ((two_apart 0 1 (omega arith) (omega arith), (two_apart 0 2 (omega arith) (omega arith), tt)), ((two_apart 1 2 (omega arith) (omega arith), tt), (tt, tt)))
 
   place_of : (k : ℕ) → k < 3 → (i : ℕ) → i ≡ other j k → Among r e i others

@@ -2,7 +2,7 @@
 use Rattle.std.proofs.Common.{◌≡◌, ℕ, ◌<◌, ◌≤◌, leb, List, [], ◌∷◌, Some, None, Option, sym, ap, ◌∙◌, inl, inr, arith}
 use Rattle.std.proofs.lemmas.Bool.{cond_both, cases_eq, cases_lt}
 use Rattle.std.specs.List.{AllByRecursion}
-use Rattle.accesses.proofs.Order.{put_all, ordered}
+use Rattle.accesses.proofs.Order.{latest_all, Pairwise, latest_pairwise, Differ, differ_flip, ordered}
 use Rattle.accesses.specs.declared.access.Candidate.{Candidate}
 use Rattle.accesses.specs.Histories.{position_of, put, latest_first}
 use Rattle.accesses.specs.Laws as order
@@ -29,7 +29,7 @@ under z None xs ys f m = f m
 under z (Some y) xs ys f (inl q) = inl q
 under z (Some y) xs ys f (inr m) = inr (f m)
 
-pub put_in : (z : run_candidates.Candidate) (x : Option Candidate) (ys : Cands) → In z (given (x ∷ ys)) → In z (given (put x ys))
+put_in : (z : run_candidates.Candidate) (x : Option Candidate) (ys : Cands) → In z (given (x ∷ ys)) → In z (given (put x ys))
 put_in z x [] m = m
 put_in z x (y ∷ ys) m =
     cond_both (leb (position_of y) (position_of x)) (x ∷ y ∷ ys) (y ∷ put x ys) (λ l. In z (given l)) (λ _. m) (λ _. under z y (x ∷ ys) (put x ys) (put_in z x ys) (swap_in z x y ys m))
@@ -49,34 +49,8 @@ sorted_out z [] m = m
 sorted_out z (x ∷ xs) m = under z x (latest_first xs) xs (sorted_out z xs) (put_out z x (latest_first xs) m)
 
 -- candidates with different positions
-abbrev pub Distinct : Option Candidate → Option Candidate → Type 0
-Distinct None o = Unit {0}
-Distinct (Some x) None = Unit {0}
-Distinct (Some x) (Some y) = x.position ≡ y.position → ⊥
-
-distinct_sym : (a b : Option Candidate) → Distinct a b → Distinct b a
-distinct_sym None None d = tt
-distinct_sym None (Some y) d = tt
-distinct_sym (Some x) None d = tt
-distinct_sym (Some x) (Some y) d = λ q. d (sym q)
-
-abbrev pub Apart : Cands → Type 0
-Apart [] = Unit {0}
-Apart (x ∷ xs) = AllByRecursion (Distinct x) xs × Apart xs
-
-put_apart : (x : Option Candidate) (ys : Cands) → AllByRecursion (Distinct x) ys → Apart ys → Apart (put x ys)
-put_apart x [] d a = (tt, tt)
-put_apart x (y ∷ ys) d a =
-    cond_both (leb (position_of y) (position_of x)) (x ∷ y ∷ ys) (y ∷ put x ys) Apart (λ _. (d, a))
-    (λ _. (put_all (Distinct y) x ys (distinct_sym x y d.0) a.0, put_apart x ys d.1 a.1))
-
-sorted_all : (Q : Option Candidate → Type 0) (xs : Cands) → AllByRecursion Q xs → AllByRecursion Q (latest_first xs)
-sorted_all Q [] h = tt
-sorted_all Q (x ∷ xs) h = put_all Q x (latest_first xs) h.0 (sorted_all Q xs h.1)
-
-sorted_apart : (xs : Cands) → Apart xs → Apart (latest_first xs)
-sorted_apart [] a = tt
-sorted_apart (x ∷ xs) a = put_apart x (latest_first xs) (sorted_all (Distinct x) xs a.0) (sorted_apart xs a.1)
+abbrev pub PositionsDiffer : Option Candidate → Option Candidate → Type 0
+PositionsDiffer = Differ (λ x. x.position)
 
 -- candidates whose positions are those of the run
 module _ (r : Run) where
@@ -84,7 +58,7 @@ module _ (r : Run) where
   Good None = Unit {0}
   Good (Some x) = x.position ≡ position r (as_run x).source
 
-  later : (x : Candidate) (xs : Cands) → x.position ≡ position r (as_run x).source → AllByRecursion Good xs → AllByRecursion (λ y. position_of y ≤ position_of (Some x)) xs → AllByRecursion (Distinct (Some x)) xs →
+  later : (x : Candidate) (xs : Cands) → x.position ≡ position r (as_run x).source → AllByRecursion Good xs → AllByRecursion (λ y. position_of y ≤ position_of (Some x)) xs → AllByRecursion (PositionsDiffer (Some x)) xs →
       (z : run_candidates.Candidate) → In z (given xs) → position r z.source < position r (as_run x).source
   later x [] g gs le ds z m = absurd m
   later x (None ∷ xs) g gs le ds z m = later x xs g gs.1 le.1 ds.1 z m
@@ -96,10 +70,10 @@ module _ (r : Run) where
       less a b u v p q h n = elim (cases_lt b a) [ inl l ↦ omega arith | inr l ↦ absurd (n (omega arith)) ]
   later x (Some y ∷ xs) g gs le ds z (inr m) = later x xs g gs.1 le.1 ds.1 z m
 
-  strict : (xs : Cands) → AllByRecursion Good xs → order.Falls xs → Apart xs → Falls (λ y. position r y.source) (given xs)
+  strict : (xs : Cands) → AllByRecursion Good xs → order.Falls xs → Pairwise PositionsDiffer xs → Falls (λ y. position r y.source) (given xs)
   strict [] g f a = tt
   strict (None ∷ xs) g f a = strict xs g.1 f.1 a.1
   strict (Some x ∷ xs) g f a = (later x xs g.0 g.1 f.0 a.0, strict xs g.1 f.1 a.1)
 
-  pub sorted_falls : (xs : Cands) → AllByRecursion Good xs → Apart xs → Falls (λ y. position r y.source) (given (latest_first xs))
-  sorted_falls xs g a = strict (latest_first xs) (sorted_all Good xs g) (ordered xs).0 (sorted_apart xs a)
+  pub sorted_falls : (xs : Cands) → AllByRecursion Good xs → Pairwise PositionsDiffer xs → Falls (λ y. position r y.source) (given (latest_first xs))
+  sorted_falls xs g a = strict (latest_first xs) (latest_all Good xs g) (ordered xs).0 (latest_pairwise PositionsDiffer (differ_flip (λ x. x.position)) xs a)

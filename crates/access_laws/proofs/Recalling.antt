@@ -15,7 +15,7 @@ use Rattle.runs.proofs.Remembered.{Found, placed_in, lw_found, lr_found}
 use Rattle.runs.proofs.WorkingOrder.{Inside, choose_yes, choose_no}
 use Rattle.runs.specs.Candidates.{last_write, latest_read}
 use Rattle.runs.specs.Runs as run
-use Rattle.runs.specs.Runs.{Instr, Run, Event, ev, local, read, write, core_of, choose, done, turns, next}
+use Rattle.runs.specs.Runs.{Instr, Run, Event, ev, local, read, write, core_of, done}
 use Rattle.access_laws.specs.Recalls.{Is, SameWrite, SameRead, Recalls, NothingIsRecalledAtFirst, next_access, RememberingRecallsTheRun}
 
 found_inside : (r : Run) (x : Instr) (a : run.Access) → Found r x a → Inside r x

@@ -1,5 +1,5 @@
--- Candidates put in order: each is at least as late as those behind it, and none is lost or added.
-use Rattle.std.proofs.Common.{◌<◌, ◌≤◌, leb, List, [], ◌∷◌, Option, refl, arith}
+-- Candidates put in order: each is at least as late as those behind it, none is lost or added, and what holds of each or of each two still holds.
+use Rattle.std.proofs.Common.{◌≡◌, ℕ, ◌<◌, ◌≤◌, leb, List, [], ◌∷◌, Some, None, Option, sym, refl, arith}
 use Rattle.std.specs.List.{AllByRecursion}
 use Rattle.std.specs.List.Sorted.{IsPermutation}
 use Rattle.std.proofs.lemmas.Bool.{cond_both, leb-true, leb-false}
@@ -15,10 +15,43 @@ all_map : (P Q : Option Candidate → Type 0) → ((y : Option Candidate) → P 
 all_map P Q f [] h = h
 all_map P Q f (y ∷ ys) h = (f y h.0, all_map P Q f ys h.1)
 
-pub put_all : (P : Option Candidate → Type 0) (x : Option Candidate) (ys : Cands) → P x → AllByRecursion P ys → AllByRecursion P (put x ys)
+put_all : (P : Option Candidate → Type 0) (x : Option Candidate) (ys : Cands) → P x → AllByRecursion P ys → AllByRecursion P (put x ys)
 put_all P x [] hx h = (hx, tt)
 put_all P x (y ∷ ys) hx h =
     cond_both (leb (position_of y) (position_of x)) (x ∷ (y ∷ ys)) (y ∷ put x ys) (AllByRecursion P) (λ _. (hx, h)) (λ _. (h.0, put_all P x ys hx h.1))
+
+pub latest_all : (P : Option Candidate → Type 0) (xs : Cands) → AllByRecursion P xs → AllByRecursion P (latest_first xs)
+latest_all P [] h = h
+latest_all P (x ∷ xs) h = put_all P x (latest_first xs) h.0 (latest_all P xs h.1)
+
+-- each two related, by a relation that holds of two either way round
+module _ (R : Option Candidate → Option Candidate → Type 0) where
+  abbrev pub Pairwise : Cands → Type 0
+  Pairwise [] = Unit {0}
+  Pairwise (x ∷ xs) = AllByRecursion (R x) xs × Pairwise xs
+
+  module _ (flip : (x y : Option Candidate) → R x y → R y x) where
+    put_pairwise : (x : Option Candidate) (ys : Cands) → AllByRecursion (R x) ys → Pairwise ys → Pairwise (put x ys)
+    put_pairwise x [] h p = (tt, tt)
+    put_pairwise x (y ∷ ys) h p =
+        cond_both (leb (position_of y) (position_of x)) (x ∷ y ∷ ys) (y ∷ put x ys) Pairwise
+        (λ _. (h, p)) (λ _. (put_all (R y) x ys (flip x y h.0) p.0, put_pairwise x ys h.1 p.1))
+
+    pub latest_pairwise : (xs : Cands) → Pairwise xs → Pairwise (latest_first xs)
+    latest_pairwise [] p = p
+    latest_pairwise (x ∷ xs) p = put_pairwise x (latest_first xs) (latest_all (R x) xs p.0) (latest_pairwise xs p.1)
+
+-- two candidates, if both are there, whose numbers differ
+abbrev pub Differ : (Candidate → ℕ) → Option Candidate → Option Candidate → Type 0
+Differ f None o = Unit {0}
+Differ f (Some x) None = Unit {0}
+Differ f (Some x) (Some y) = f x ≡ f y → ⊥
+
+pub differ_flip : (f : Candidate → ℕ) (x y : Option Candidate) → Differ f x y → Differ f y x
+differ_flip f None None d = tt
+differ_flip f None (Some y) d = tt
+differ_flip f (Some x) None d = tt
+differ_flip f (Some x) (Some y) d = λ q. d (sym q)
 
 put_falls : (x : Option Candidate) (ys : Cands) → Falls ys → Falls (put x ys)
 put_falls x [] h = (tt, tt)

@@ -9,9 +9,9 @@ use Rattle.recordings.specs.ByTheRules.{ByTheRules}
 use Rattle.recordings.specs.Tracks.{logs_of}
 use Rattle.records.specs.Settings.{fits}
 use Rattle.records.specs.declared.settings.Sizes.{Sizes}
-use Rattle.runs.specs.Recording.{Meets}
+use Rattle.reducers.specs.Numbers.{Meets}
 use Rattle.replays.specs.Replies.{carried_out}
-use Rattle.sessions.specs.Whole.{Buffers, Answers, Whole, first_memory}
+use Rattle.sessions.specs.Whole.{Buffers, Answers, TurnsRecorded, Whole, first_memory}
 use Rattle.recordings.proofs.Decided.{rules_decide}
 use Rattle.recordings.specs.Decided.{Decides, arcs_by}
 use Rattle.runs.specs.Reducers.{Reducer}
@@ -31,30 +31,33 @@ module _ (meets : Meets) (K : Rules) (z : Sizes) (turns : List ℕ) (before late
   first_is : first_memory z before ≡ m
   first_is = λ i. start (take_all z.cells before.cells (omega (arith, many_cells)) i) (take_all z.cores before.states (omega (arith, many_cores)) i)
 
+  abbrev r : TurnsRecorded meets K z (first_memory z before) turns a.turns before later
+  r = w.recorded
+
   -- the run carries out every accepted turn
-  steps_are : (steps : ℕ) → ((n : ℕ) → a.ended ≡ 0 ∷ n ∷ [] → steps ≡ n) → steps ≡ length w.accepted
+  steps_are : (steps : ℕ) → ((n : ℕ) → a.ended ≡ 0 ∷ n ∷ [] → steps ≡ n) → steps ≡ length r.accepted
   steps_are steps f =
-      let none : carried_out a.steps ≡ 0 = ap carried_out w.replied in
-      let h = f (length w.accepted - carried_out a.steps) w.finishes in
+      let none : carried_out a.steps ≡ 0 = ap carried_out w.replayed.replied in
+      let h = f (length r.accepted - carried_out a.steps) w.replayed.finishes in
       omega (arith, h, none)
 
   pub tells : (steps : ℕ) → ((n : ℕ) → a.ended ≡ 0 ∷ n ∷ [] → steps ≡ n) → (text : List ℕ) → text ≡ text_of (run_lines (arcs_in_store later.store z) later.cells steps) → Told meets K z m turns text
   tells steps ended text lines =
-      let p = plain K (first_memory z before) w.accepted in
-      let arcs = arcs_held later.store z fit (λ k. logs_of k w.arcs) (λ k. get_or p.counts k 0) (λ k h. (w.logs k h).0) in
-      let cells = w.cells ∙ ap (λ l. p.cells ++ l) (drop_all z.cells before.cells (omega (arith, many_cells))) ∙ append-nil p.cells in
+      let p = plain K (first_memory z before) r.accepted in
+      let arcs = arcs_held later.store z fit (λ k. logs_of k r.arcs) (λ k. get_or p.counts k 0) (λ k h. (r.logs k h).0) in
+      let cells = r.cells ∙ ap (λ l. p.cells ++ l) (drop_all z.cells before.cells (omega (arith, many_cells))) ∙ append-nil p.cells in
       record {
         says = reverse a.turns;
-        accepted = w.accepted;
-        numbers = w.numbers;
-        arcs = w.arcs;
-        recorded = subst (λ x. ByTheRules meets K z x (reverse turns) (reverse a.turns) w.accepted w.numbers w.arcs) first_is w.recorded;
+        accepted = r.accepted;
+        numbers = r.numbers;
+        arcs = r.arcs;
+        recorded = subst (λ x. ByTheRules meets K z x (reverse turns) (reverse a.turns) r.accepted r.numbers r.arcs) first_is r.rules;
         lines = lines ∙ (λ i. text_of (run_lines (arcs i) (cells i) (steps_are steps ended i)))
-            ∙ ap (λ (x : Memory). text_of (lines_of K z.cores x w.accepted w.arcs)) first_is;
+            ∙ ap (λ (x : Memory). text_of (lines_of K z.cores x r.accepted r.arcs)) first_is;
       }
 
 -- a reducer with one choice tells one text
-pub told_decided : (meets : Meets) (R : Reducer) → Decides meets R → (K : Rules) (z : Sizes) (m : Memory) (turns text : List ℕ) → Told meets K z m turns text →
+told_decided : (meets : Meets) (R : Reducer) → Decides meets R → (K : Rules) (z : Sizes) (m : Memory) (turns text : List ℕ) → Told meets K z m turns text →
     text ≡ text_of (decided_lines R K z m turns)
 told_decided meets R d K z m turns text t =
     let e = rules_decide meets R d K z m (reverse turns) t.says t.accepted t.numbers t.arcs t.recorded in
@@ -71,7 +74,7 @@ pub as_many : {X : Type 0} (f : X → List ℕ) (g : ℕ → List ℕ) (row item
 as_many f g row items starts r e = ap length r ∙ sym (length-map items f) ∙ ap length e ∙ length-map starts g
 
 -- the lines of a run are not bad
-pub not_bad : (arcs : List RunArc) (cells : List ℕ) (steps : ℕ) → text_of (run_lines arcs cells steps) ≡ bad_text → ⊥
+not_bad : (arcs : List RunArc) (cells : List ℕ) (steps : ℕ) → text_of (run_lines arcs cells steps) ≡ bad_text → ⊥
 not_bad [] cells steps e = let q : ◌≡◌ {A = ℕ} 99 98 = ap (λ l. get_or l 0 0) e in omega arith
 not_bad (a ∷ arcs) cells steps e = let q : ◌≡◌ {A = ℕ} 97 98 = ap (λ l. get_or l 0 0) e in omega arith
 

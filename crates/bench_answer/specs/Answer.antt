@@ -7,10 +7,9 @@ use Rattle.bench_input.specs.declared.input.Reduction.{Reduction}
 use Rattle.bench_input.specs.declared.input.Reduction.TheVariants.{KeepAll, Pairwise, Exact}
 use Rattle.bench_listing.specs.Lines.{text_of}
 use Rattle.bench_listing.specs.Runs.{arcs_by_core, run_lines}
-use Rattle.cores.specs.Memory.{Rules, Memory, start, plain}
-use Rattle.cores.specs.Register.{register_next, register_after}
-use Rattle.cores.specs.Script.{script_next, script_after}
-use Rattle.recorder.specs.Turns.{rules}
+use Rattle.cores.specs.Memory.{Rules, rules, Memory, start, plain}
+use Rattle.cores.specs.Register.{register_first, register_next, register_after}
+use Rattle.cores.specs.Script.{script_first, script_next, script_after}
 use Rattle.recordings.specs.Decided.{arcs_by, accepted_by}
 use Rattle.recordings.specs.Tracks.{logs_of}
 use Rattle.records.specs.declared.settings.Sizes.{Sizes}
@@ -23,8 +22,8 @@ rules_for Script text = rules script_next script_after text
 rules_for Register text = rules register_next register_after text
 
 abbrev pub state_at : Kind → ℕ → List ℕ
-state_at Script place = place ∷ 0 ∷ []
-state_at Register place = place ∷ replicate 8 0
+state_at Script place = script_first place
+state_at Register place = register_first place
 
 abbrev pub reducer_for : Reduction → Reducer
 reducer_for KeepAll = keep_all

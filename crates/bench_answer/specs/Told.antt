@@ -5,8 +5,8 @@ use Rattle.bench_listing.specs.Lines.{text_of}
 use Rattle.cores.specs.Memory.{Rules, Memory}
 use Rattle.recordings.specs.ByTheRules.{ByTheRules}
 use Rattle.records.specs.declared.settings.Sizes.{Sizes}
-use Rattle.reducers.specs.Numbers.{Numbers}
-use Rattle.runs.specs.Recording.{Arc, Meets}
+use Rattle.reducers.specs.Numbers.{Numbers, Meets}
+use Rattle.runs.specs.Recording.{Arc}
 
 pub record Told (meets : Meets) (K : Rules) (z : Sizes) (m : Memory) (turns text : List ℕ) : Type 0 where
   pub says : List (List ℕ)

@@ -2,9 +2,8 @@ ghost use Rattle.std.specs.Prelude.{◌≡◌, ℕ, true, [], ◌∷◌, map, le
 ghost use Rattle.bench_input.specs.Described.{described};
 ghost use Rattle.bench_input.specs.Session.{session_of};
 ghost use Rattle.bench_listing.specs.Lines.{text_of};
-ghost use Rattle.cores.specs.Memory.{start};
+ghost use Rattle.cores.specs.Memory.{rules, start};
 ghost use Rattle.records.specs.Settings.{settled};
-ghost use Rattle.recorder.specs.Turns.{rules};
 ghost use Rattle.replayer.specs.Answers.{run_numbers};
 ghost use Rattle.bench_answer.specs.Answer.{sizes_for, reducer_for, decided_lines, session_lines, answer_lines, BadExactly};
 ghost use Rattle.bench_answer.specs.Told.{Told};

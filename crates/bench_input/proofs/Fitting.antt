@@ -1,4 +1,4 @@
--- The tests of a session's numbers, as facts.
+-- Numbers that pass the tests of a session are in range and as many as they say.
 use Rattle.std.proofs.Common.{◌≡◌, ℕ, ◌+◌, ◌≤◌, Bool, true, false, ◌&&◌, eqb, leb, List, length, get_or, drop, arith, length-drop}
 use Rattle.std.specs.Int.{IsInRange, is_in_range}
 use Rattle.std.proofs.lemmas.List.{length-take-le}

@@ -1,9 +1,11 @@
 -- Numbers that are tested part by part are those of a session, or of none.
-use Rattle.std.proofs.Common.{◌≡◌, ℕ, Bool, true, false, cond, ◌&&◌, leb, List, get_or, Some, None, sym, refl, ap, ◌∙◌}
+use Rattle.std.proofs.Common.{◌≡◌, ℕ, Bool, true, false, cond, ◌&&◌, leb, List, get_or, Some, None, Err, sym, refl, ap, ◌∙◌}
 use Rattle.std.proofs.lemmas.Bool.{cond-true, cond-false, and_left, and_right, and_from}
 use Rattle.std.proofs.lemmas.Option.{cond_some}
-use Rattle.bench_input.specs.Session.{Session}
-use Rattle.bench_input.specs.Answers.{Parts}
+use Rattle.bench_input.specs.Session.{Session, session_of}
+use Rattle.bench_input.specs.Answers.{Answers, Parts, LaidOrBad}
+use Rattle.bench_input.specs.declared.errors.InputError.{InputError}
+use Rattle.bench_input.specs.declared.errors.InputError.TheVariants.{Bad, NoMemory}
 use Rattle.bench_input.specs.Described.{all_bytes, kind_of, reduction_of, sized, text_of, well_formed, the_session, session}
 use Rattle.bench_input.specs.declared.reading.Layout.{Layout}
 
@@ -25,8 +27,10 @@ module _ (ns : List ℕ) where
   unfolding session
   none_so e = cond-false _ _ _ e
 
-  pub none_sized : sized ns ≡ false → session ns ≡ None
-  none_sized e = none_so (and_left (sized ns) (kind_test && (reduction_test && text_test)) e)
+  -- what has no parts is no session
+  pub not_laid_out : (e : InputError) → LaidOrBad ns (Err e) → Answers session_of (session ns) (Err e)
+  not_laid_out Bad h = none_so (and_left (sized ns) (kind_test && (reduction_test && text_test)) h)
+  not_laid_out NoMemory h = absurd h
 
   some_session : sized ns ≡ true → kind_test ≡ true → reduction_test ≡ true → text_test ≡ true → session ns ≡ Some (the_session ns)
   unfolding session

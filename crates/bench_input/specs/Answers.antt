@@ -13,6 +13,11 @@ Answers view o (Ok x) = o ≡ Some (view x)
 Answers view o (Err Bad) = o ≡ None
 Answers view o (Err NoMemory) = Unit {0}
 
+-- the value, or `Bad` where there is none; what takes no memory answers just this
+abbrev pub or_bad : {Y : Type 0} → Option Y → Result Y InputError
+or_bad (Some y) = Ok y
+or_bad None = Err Bad
+
 -- a count that comes first is at most 1,024, and so many numbers follow
 abbrev pub Counted : List ℕ → Type 0
 Counted ns = (slice_index ns 0 ≤ 1024) × (length ns ≡ slice_index ns 0 + 1)
@@ -32,6 +37,12 @@ pub record Parts (ns : List ℕ) (l : Layout) : Type 0 where
 abbrev pub LaidOut : List ℕ → Option Layout → Type 0
 LaidOut ns None = sized ns ≡ false
 LaidOut ns (Some l) = Parts ns l
+
+-- the same, with `Bad` for none
+abbrev pub LaidOrBad : List ℕ → Result Layout InputError → Type 0
+LaidOrBad ns (Ok l) = Parts ns l
+LaidOrBad ns (Err Bad) = sized ns ≡ false
+LaidOrBad ns (Err NoMemory) = ⊥
 
 -- a session that the bytes describe, or `Bad` where they describe none
 abbrev pub AnswersInWords : List ℕ → Result Input InputError → Type 0

@@ -1,6 +1,7 @@
-ghost use Rattle.std.specs.Prelude.{◌≡◌, [], ◌∷◌, vec_items};
+ghost use Rattle.std.specs.Prelude.{◌≡◌, [], ◌∷◌, None, Err, vec_items};
 ghost use Rattle.listing.specs.Words.{argument};
 ghost use Rattle.bench_input.specs.Answers.{Answers};
+ghost use Rattle.bench_input.specs.declared.errors.InputError.TheVariants.{Bad};
 ghost use Rattle.bench_input.specs.Numbers.{white, after, numbers_in, numbers};
 
 use crate::errors::InputError;
@@ -21,7 +22,8 @@ fn word_number(word: &[u8]) -> Option<u16>
 
 // Keeps the number of a word, and nothing where two white bytes have no word between them.
 fn keep_word(found: &mut Vec<u16>, word: &[u8]) -> Result<(), InputError>
-    ensures { Answers (λ _. found.new.items) (after found.old.items (numbers_in (word.now ∷ []))) result }
+    ensures kept { Answers (λ _. found.new.items) (after found.old.items (numbers_in (word.now ∷ []))) result }
+    ensures refused { numbers_in (word.now ∷ []) ≡ None → result ≡ Err Bad }
 {
     if !word.is_empty() {
         found.push(word_number(word).ok_or(InputError::Bad)?)?;

@@ -1,5 +1,5 @@
 ghost use Rattle.std.specs.Prelude.{◌≡◌, drop, IfOk, MatchOption, if◌then◌else◌, Some, None, vec_items, nat_le};
-ghost use Rattle.bench_input.specs.Answers.{Answers, Counted, LaidOut, AnswersInWords};
+ghost use Rattle.bench_input.specs.Answers.{Answers, or_bad, Counted, LaidOut, LaidOrBad, AnswersInWords};
 ghost use Rattle.bench_input.specs.Described.{all_bytes, kind_of, reduction_of, session, described};
 ghost use Rattle.bench_input.specs.Session.{session_of};
 
@@ -11,7 +11,7 @@ use std::alloc::{AllocError, Global};
 impl TryFrom<u16> for Kind {
     type Error = InputError;
 
-    ghost try_from_gives = { λ n r. Answers (λ k. k) (if nat_le n 1 then Some (kind_of n) else None) r };
+    ghost try_from_gives = { λ n r. r ≡ or_bad (if nat_le n 1 then Some (kind_of n) else None) };
 
     fn try_from(n: u16) -> Result<Kind, InputError> {
         match n {
@@ -25,7 +25,7 @@ impl TryFrom<u16> for Kind {
 impl TryFrom<u16> for Reduction {
     type Error = InputError;
 
-    ghost try_from_gives = { λ n r. Answers (λ k. k) (if nat_le n 2 then Some (reduction_of n) else None) r };
+    ghost try_from_gives = { λ n r. r ≡ or_bad (if nat_le n 2 then Some (reduction_of n) else None) };
 
     fn try_from(n: u16) -> Result<Reduction, InputError> {
         match n {
@@ -37,13 +37,20 @@ impl TryFrom<u16> for Reduction {
     }
 }
 
+// A number of an item, which has to be a byte.
+fn byte_of(n: u16) -> Result<u8, InputError>
+    ensures { result ≡ or_bad (if nat_le n 255 then Some n else None) }
+{
+    u8::try_from(n).map_err(|_| InputError::Bad)
+}
+
 // The bytes of the items.
 fn bytes_of(heap: Global, numbers: &[u16]) -> Result<Vec<u8>, InputError>
     ensures { Answers vec_items (if all_bytes numbers.now then Some numbers.now else None) result }
 {
     let mut bytes = Vec::new(heap);
     for n in numbers {
-        bytes.push(u8::try_from(*n).map_err(|_| InputError::Bad)?)?;
+        bytes.push(byte_of(*n)?)?;
     }
     Ok(bytes)
 }
@@ -103,11 +110,18 @@ impl<'a> Layout<'a> {
     }
 }
 
+// The parts, or `Bad` where there are none.
+fn parts_of(numbers: &[u16]) -> Result<Layout, InputError>
+    ensures { LaidOrBad numbers.now result }
+{
+    Layout::of(numbers).ok_or(InputError::Bad)
+}
+
 // The session of these numbers, or `Bad` where they are those of none.
 fn input_of(heap: Global, numbers: &[u16]) -> Result<Input, InputError>
     ensures { Answers session_of (session numbers.now) result }
 {
-    let parts = Layout::of(numbers).ok_or(InputError::Bad)?;
+    let parts = parts_of(numbers)?;
     Ok(Input {
         kind: Kind::try_from(parts.kind)?,
         reduction: Reduction::try_from(parts.reduction)?,

@@ -12,7 +12,7 @@ use Rattle.bench_listing.specs.Runs.{RunArc, arc_line, arc_to, arcs_by_core, arc
 use Rattle.bench_listing.proofs.Texts.{in_turn, text_append}
 
 -- one record more
-pub log_text_more : (j : ℕ) (e : Entry) (es : List Entry) → log_text j (e ∷ es) ≡ log_text j (e ∷ []) ++ log_text j es
+log_text_more : (j : ℕ) (e : Entry) (es : List Entry) → log_text j (e ∷ es) ≡ log_text j (e ∷ []) ++ log_text j es
 log_text_more j (head _ _ _) es = refl
 log_text_more j (arc a) es = sym (append_assoc (joined (arc_line (arc_to j a))) (10 ∷ []) (log_text j es))
 log_text_more j (end _ _) es = refl
@@ -31,7 +31,7 @@ arcs_append : (xs ys : List RunArc) → arcs_text (xs ++ ys) ≡ arcs_text xs ++
 arcs_append xs ys = ap text_of (lines_append xs ys) ∙ text_append (map arc_line xs) (map arc_line ys)
 
 -- one core more
-pub by_core_next : (arcs : ℕ → List LogArc) (n : ℕ) → arcs_by_core arcs (suc n) ≡ arcs_by_core arcs n ++ map (arc_to n) (arcs n)
+by_core_next : (arcs : ℕ → List LogArc) (n : ℕ) → arcs_by_core arcs (suc n) ≡ arcs_by_core arcs n ++ map (arc_to n) (arcs n)
 unfolding arcs_by_core
 by_core_next arcs n = refl
 

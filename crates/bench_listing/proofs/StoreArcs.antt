@@ -1,4 +1,4 @@
--- The arcs of a store whose logs hold given arcs.
+-- The arcs listed of a store whose logs hold given arcs are those.
 use Rattle.std.proofs.Common.{◌≡◌, ℕ, zero, suc, ◌*◌, ◌<◌, ◌≤◌, true, leb, List, [], ◌∷◌, ◌++◌, map, length, drop, refl, ap, ◌∙◌, arith}
 use Rattle.std.proofs.lemmas.List.{length-append, length-take}
 use Rattle.std.proofs.lemmas.Bool.{and_parts, leb-true, cond-true}
@@ -12,7 +12,7 @@ use Rattle.logs.proofs.Sessions.{few_cores}
 use Rattle.bench_listing.specs.Runs.{arc_to, arcs_by_core, arcs_among, arcs_logged, arcs_in_store}
 
 -- the arcs of n cores depend on no other core
-pub by_core_same : (f g : ℕ → List LogArc) (n : ℕ) → ((j : ℕ) → j < n → f j ≡ g j) → arcs_by_core f n ≡ arcs_by_core g n
+by_core_same : (f g : ℕ → List LogArc) (n : ℕ) → ((j : ℕ) → j < n → f j ≡ g j) → arcs_by_core f n ≡ arcs_by_core g n
 unfolding arcs_by_core
 by_core_same f g zero same = refl
 by_core_same f g (suc n) same = λ i. by_core_same f g n (λ j h. same j (omega arith)) i ++ map (arc_to n) (same n (omega arith) i)

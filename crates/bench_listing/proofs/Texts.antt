@@ -1,4 +1,4 @@
--- Texts of several lines.
+-- Texts written one after another, and lines that are written word by word.
 use Rattle.std.proofs.Common.{◌≡◌, ℕ, ◌+◌, ◌<◌, List, [], ◌∷◌, ◌++◌, map, length, get_or, take, decimal, sym, refl, ap, ◌∙◌, append_assoc, append-nil}
 use Rattle.std.proofs.lemmas.List.{take_more}
 use Rattle.bench_listing.specs.Lines.{spaced, joined, text_of}

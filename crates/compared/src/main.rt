@@ -1,14 +1,19 @@
-// `compared` reads cases from standard input, each an input of the bench program and the lines expected in answer,
-// and says for how many of them the bench program answers just these.
+// `compared` reads a table of cases from standard input, and says in how many of them the answer is the one expected.
+// A case is an input of the bench program, in lines `in`, or a store for the inspector, in a line `log P C L HEX`;
+// then the lines expected in answer, each behind `out`, and an empty line.
 #![tactic(auto)]
 
+mod stores;
+
+use crate::stores::listed;
 use bench_answer::answer::answer;
 use std::alloc::{AllocError, Global};
 
-// The answer to the latest input, the lines expected of it so far, and how many cases agreed and differed.
+// The input of the latest case so far, or the listing of its store; the lines expected; and how many cases agreed and differed.
 #[derive(Drop)]
 struct Comparison {
-    answered: String,
+    input: String,
+    listing: Option<String>,
     expected: String,
     agreed: usize,
     differed: usize,
@@ -17,25 +22,41 @@ struct Comparison {
 impl Comparison {
     fn new(heap: Global) -> Comparison {
         Comparison {
-            answered: String::new(heap),
+            input: String::new(heap),
+            listing: None,
             expected: String::new(heap),
             agreed: 0,
             differed: 0,
         }
     }
 
-    // One line: `in` and an input, `out` and a line of its answer, or an empty line behind each case.
-    fn take(&mut self, heap: Global, line: &str) -> Result<(), AllocError> {
-        if let Some(input) = line.strip_prefix("in ") {
-            self.answered = answer(heap, input.as_bytes())?;
-            self.expected = String::new(heap);
-        } else if let Some(out) = line.strip_prefix("out ") {
-            self.expected.push_str(out)?;
-            self.expected.push_str("\n")?;
-        } else if self.answered.as_bytes() == self.expected.as_bytes() {
+    // Counts the case that ends here, and begins another.
+    fn settle(&mut self, heap: Global) -> Result<(), AllocError> {
+        let answered = match self.listing.take() {
+            Some(text) => text,
+            None => answer(heap, self.input.as_bytes())?,
+        };
+        if answered.as_bytes() == self.expected.as_bytes() {
             self.agreed = self.agreed.saturating_add(1);
         } else {
             self.differed = self.differed.saturating_add(1);
+        }
+        self.input = String::new(heap);
+        self.expected = String::new(heap);
+        Ok(())
+    }
+
+    fn take(&mut self, heap: Global, line: &str) -> Result<(), AllocError> {
+        if let Some(text) = line.strip_prefix("in ") {
+            self.input.push_str(text)?;
+            self.input.push_str("\n")?;
+        } else if let Some(words) = line.strip_prefix("log ") {
+            self.listing = Some(listed(heap, words)?);
+        } else if let Some(text) = line.strip_prefix("out ") {
+            self.expected.push_str(text)?;
+            self.expected.push_str("\n")?;
+        } else {
+            self.settle(heap)?;
         }
         Ok(())
     }

@@ -1,11 +1,12 @@
 -- In a run of accepted turns a cell holds what was stored to it latest, so that is what a read or an exchange brings.
 use Rattle.std.proofs.Common.{◌≡◌, ℕ, ◌<◌, Bool, true, false, cond, ltb, List, [], ◌∷◌, ◌++◌, length, get_or, set, sym, refl, ap, ◌∙◌, subst, inl, inr, arith}
-use Rattle.std.proofs.lemmas.List.{get_or-set_same, get_or-set_other, length-set}
+use Rattle.std.proofs.lemmas.List.{get_or-set_same, get_or-set_other}
 use Rattle.std.proofs.lemmas.Bool.{and_parts, ltb-true, cases_eq}
 use Rattle.cores.specs.declared.interface.Request.{Request}
 use Rattle.cores.specs.declared.interface.Request.TheVariants.{Halt, Local, Read, Write, Exchange}
 use Rattle.cores.specs.Latest.{Reads, Stores, Latest, ReadsBringTheLatestStore}
 use Rattle.cores.specs.Memory.{Rules, Memory, Outcome, brought, stored, able, outcome, effect, turned, accepts, plain, Accepted, outcomes, fed, unrefused, RefusedTurnsChangeNothing}
+use Rattle.cores.proofs.Storing.{cells_size}
 
 pub refused_turns_change_nothing : RefusedTurnsChangeNothing
 refused_turns_change_nothing K m [] = refl
@@ -15,13 +16,6 @@ refused_turns_change_nothing K m ((j, refused) ∷ f) = go refused (refused_turn
         cond b (fed K m f) (turned K (fed K m f) j) ≡ plain K m (cond b (unrefused f) (j ∷ unrefused f))
     go true q = q
     go false q = ap (λ x. turned K x j) q
-
-stored_size : (r : Request) (cells : List ℕ) → length (stored r cells) ≡ length cells
-stored_size Halt cells = refl
-stored_size Local cells = refl
-stored_size (Read c) cells = refl
-stored_size (Write c v) cells = length-set cells c v
-stored_size (Exchange c v) cells = length-set cells c v
 
 reads_number : (r : Request) (c : ℕ) (cells : List ℕ) → Reads r c → brought r cells ≡ get_or cells c 0
 reads_number Halt c cells h = absurd h
@@ -58,18 +52,13 @@ module _ (start cells : List ℕ) (e : Outcome) (es : List Outcome) (c : ℕ) (i
   after_one (Exchange d v) q = store_one d v (λ n s. subst (λ r. Stores r c n) (sym q) s) (λ n s. (subst (λ r. Stores r c n) q s).0)
 
 module _ (K : Rules) (m : Memory) where
-  cells_size : (turns : List ℕ) → length (plain K m turns).cells ≡ length m.cells
-  unfolding outcome effect
-  cells_size [] = refl
-  cells_size (j ∷ t) = stored_size (outcome K (plain K m t) j).request (plain K m t).cells ∙ cells_size t
-
   -- what a cell holds after some turns
   holds_latest : (turns : List ℕ) (c : ℕ) → c < length m.cells → Latest m.cells (outcomes K m turns) c (get_or (plain K m turns).cells c 0)
   unfolding outcome effect
   holds_latest [] c h = inl (tt, refl)
   holds_latest (j ∷ t) c h =
       let e = outcome K (plain K m t) j in
-      after_one m.cells (plain K m t).cells e (outcomes K m t) c (omega (arith, cells_size t)) (holds_latest t c h) e.request refl
+      after_one m.cells (plain K m t).cells e (outcomes K m t) c (omega (arith, cells_size K m t)) (holds_latest t c h) e.request refl
 
   brings_latest : (j : ℕ) (t : List ℕ) → accepts K (plain K m t) j ≡ true → (c : ℕ) → Reads (outcome K (plain K m t) j).request c → Latest m.cells (outcomes K m t) c (outcome K (plain K m t) j).number
   unfolding outcome
@@ -77,7 +66,7 @@ module _ (K : Rules) (m : Memory) where
       let p = plain K m t in
       let request = K.next (get_or p.states j []) in
       let inside = reads_within request c (length p.cells) r (and_parts (ltb j (length p.states)) (able request (length p.cells)) a).1 in
-      subst (Latest m.cells (outcomes K m t) c) (sym (reads_number request c p.cells r)) (holds_latest t c (omega (arith, cells_size t)))
+      subst (Latest m.cells (outcomes K m t) c) (sym (reads_number request c p.cells r)) (holds_latest t c (omega (arith, cells_size K m t)))
 
   at_any : (turns : List ℕ) → Accepted K m turns → (later : List Outcome) (e : Outcome) (earlier : List Outcome) → outcomes K m turns ≡ later ++ (e ∷ earlier) →
       (c : ℕ) → Reads e.request c → Latest m.cells earlier c e.number

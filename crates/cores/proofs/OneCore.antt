@@ -1,4 +1,4 @@
--- One core of several, copied out of the caller's slice, told and written back.
+-- Telling one core of several changes its state by its rule, and no other core.
 use Rattle.std.proofs.Common.{◌≡◌, ℕ, ◌+◌, ◌<◌, List, [], map, length, get_or, set, sym, ap, ◌∙◌, arith}
 use Rattle.std.proofs.lemmas.List.{get_or-map, map-set, take-set, drop-set-lt}
 use Rattle.cores.specs.Acting.{told, OthersKept}

@@ -1,4 +1,4 @@
--- What lies beyond a size stays: cells beyond those that a request may name, and what lies behind a part that stays.
+-- A request whose cell exists leaves the cells beyond, and what is the same from a place on is the same from any later one.
 use Rattle.std.proofs.Common.{◌≡◌, ℕ, ◌+◌, ◌-◌, ◌≤◌, true, List, drop, sym, refl, ap, ◌∙◌, arith}
 use Rattle.std.proofs.lemmas.List.{drop-set-lt, drop-drop}
 use Rattle.std.proofs.lemmas.Bool.{ltb-true}

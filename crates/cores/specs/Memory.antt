@@ -8,6 +8,10 @@ pub record Rules : Type 0 where
   pub next : List ℕ → Request
   pub after : List ℕ → ℕ → List ℕ
 
+-- the rules of a kind of core over a text
+abbrev pub rules : (List ℕ → List ℕ → Request) → (List ℕ → List ℕ → ℕ → List ℕ) → List ℕ → Rules
+rules next after text = record { next = next text; after = after text }
+
 pub record Memory : Type 0 where
   pub cells : List ℕ
   pub states : List (List ℕ)

@@ -1,11 +1,13 @@
-// A turn at each reducer whose bounds leave it one choice: one outcome.
+// With a reducer whose bounds leave it one choice, as each of the three, a turn has one outcome.
 #![tactic(auto)]
 
 ghost use Rattle.std.specs.Prelude.{◌≡◌};
-ghost use Rattle.recorder.specs.Decided.{Decides, turned_by, exactly, nothing, known_only};
-ghost use Rattle.recorder.specs.Turns.{rules, scene, answered, said, kept, unmoved};
+ghost use Rattle.cores.specs.Memory.{rules};
+ghost use Rattle.recorder.specs.Decided.{Decides, turned_by, exactly, nothing};
+ghost use Rattle.recorder.specs.Turns.{scene, answered, said, kept, unmoved};
 ghost use Rattle.records.specs.Settings.{SurplusKept};
 ghost use Rattle.reducers.specs.Numbers.{Numbers};
+ghost use Rattle.reducers.specs.Rows.{known_only};
 ghost use borrow.Author.Rules.{of_blocks};
 
 use cores::interface::Core;
@@ -21,6 +23,7 @@ pub trait Decided: Reducer {
     // What the reducer makes of a bound.
     ghost choice: { Numbers → Numbers };
 
+    // What meets a bound is what `choice` makes of it.
     ghost decides: { Decides Self.meets choice };
 }
 

@@ -2,6 +2,7 @@
 use Rattle.std.proofs.Common.{◌≡◌, ℕ, ◌<◌, ◌≤◌, List, [], ◌∷◌, ◌++◌, Some, None, Option, refl, arith}
 use Rattle.std.proofs.lemmas.Bool.{cond_both}
 use Rattle.std.specs.List.{AllByRecursion}
+use Rattle.accesses.proofs.Order.{Pairwise}
 use Rattle.accesses.specs.declared.access.Access.{Access}
 use Rattle.accesses.specs.declared.access.Candidate.{Candidate}
 use Rattle.logs.specs.Lawful.{Stands, Behind, Lawful}
@@ -13,7 +14,7 @@ use Rattle.records.specs.Settings.{heading_of}
 use Rattle.records.specs.declared.settings.Heading.{Heading}
 use Rattle.reducers.specs.Numbers.{Numbers}
 use Rattle.lawful_logs.specs.Orderly.{done_by}
-use Rattle.lawful_logs.proofs.Candidates.{Fit, Apart, Distinct}
+use Rattle.lawful_logs.proofs.Candidates.{Fit, CoresDiffer}
 
 pub all_append : {X : Type 0} (P : X → Type 0) (xs ys : List X) → AllByRecursion P xs → AllByRecursion P ys → AllByRecursion P (xs ++ ys)
 all_append P [] ys h k = k
@@ -66,18 +67,18 @@ module _ (b : Book) (by : Access) (some : 0 < by.count) where
   pub arcs_done : (n : Numbers) (xs : List (Option Candidate)) (ms : List Numbers) → AllByRecursion Fits xs → AllByRecursion (λ a. a.count ≤ done_by b a.source) (arcs_to by n xs ms)
   arcs_done n xs ms h = arcs_all (λ a. a.count ≤ done_by b a.source) by n xs ms (all_map Fits (To (λ a. a.count ≤ done_by b a.source) by) xs done h)
 
-  apart_behind : (x : Candidate) (o : Option Candidate) → Apart (Some x) o → To (Behind (arc_from by x)) by o
+  apart_behind : (x : Candidate) (o : Option Candidate) → CoresDiffer (Some x) o → To (Behind (arc_from by x)) by o
   apart_behind x None h = tt
   apart_behind x (Some y) h = record { order = omega arith; once = λ _ e. h e }
 
-  pub arcs_lawful : (n : Numbers) (xs : List (Option Candidate)) (ms : List Numbers) → AllByRecursion Fits xs → Distinct xs → Lawful g (arcs_to by n xs ms)
+  pub arcs_lawful : (n : Numbers) (xs : List (Option Candidate)) (ms : List Numbers) → AllByRecursion Fits xs → Pairwise CoresDiffer xs → Lawful g (arcs_to by n xs ms)
   arcs_lawful n [] ms f d = tt
   arcs_lawful n (x ∷ xs) [] f d = tt
   arcs_lawful n (None ∷ xs) (m ∷ ms) f d = arcs_lawful m xs ms f.1 d.1
   arcs_lawful n (Some x ∷ xs) (m ∷ ms) f d =
       let rest = arcs_to by m xs ms in
       let more = arcs_lawful m xs ms f.1 d.1 in
-      let behind = arcs_all (Behind (arc_from by x)) by m xs ms (all_map (Apart (Some x)) (To (Behind (arc_from by x)) by) xs (apart_behind x) d.0) in
+      let behind = arcs_all (Behind (arc_from by x)) by m xs ms (all_map (CoresDiffer (Some x)) (To (Behind (arc_from by x)) by) xs (apart_behind x) d.0) in
       cond_both (known? by.core n x) [] (arc_from by x ∷ []) (λ front. Lawful g (front ++ rest)) (λ _. more) (λ _. (stands (Some x) f.0, behind, more))
 
 -- later arcs behind earlier ones

@@ -1,9 +1,10 @@
 -- The candidates of an access come from other cores of the session, at most one from each, and were done.
-use Rattle.std.proofs.Common.{◌≡◌, ℕ, ◌+◌, ◌<◌, Bool, true, false, cond, ◌&&◌, eqb, ltb, leb, List, [], ◌∷◌, get_or, Some, None, Option, sym, refl, ◌∙◌, arith}
-use Rattle.std.proofs.lemmas.Bool.{cond_both, eqb-true, eqb-false, ltb-true, ltb-false, leb-false}
+use Rattle.std.proofs.Common.{◌≡◌, ℕ, ◌<◌, Bool, true, false, cond, ◌&&◌, eqb, ltb, leb, List, [], ◌∷◌, get_or, Some, None, Option, sym, refl, ◌∙◌, arith}
+use Rattle.std.proofs.lemmas.Bool.{cond_both, eqb-true, eqb-false, ltb-true, leb-false}
 use Rattle.std.specs.List.{AllByRecursion}
-use Rattle.accesses.proofs.Order.{put_all}
-use Rattle.accesses.specs.Histories.{candidate, write_if, read_or, from_core, other, put, latest_first, position_of, candidates_of, candidates_at, no_cell}
+use Rattle.accesses.proofs.Order.{latest_all, Pairwise, latest_pairwise, Differ, differ_flip}
+use Rattle.accesses.proofs.Others.{other_differs, other_rises}
+use Rattle.accesses.specs.Histories.{candidate, write_if, read_or, from_core, other, candidates_of, candidates_at, no_cell}
 use Rattle.accesses.specs.declared.access.Access.{Access}
 use Rattle.accesses.specs.declared.access.Candidate.{Candidate}
 use Rattle.accesses.specs.declared.history.CellHistory.{CellHistory}
@@ -20,59 +21,17 @@ abbrev pub Fit : Book → ℕ → ℕ → Option Candidate → Type 0
 Fit b P j None = Unit {0}
 Fit b P j (Some x) = (x.source.core < P) × (x.source.core ≡ j → ⊥) × Done b x.source.core x.source.count
 
-abbrev pub Apart : Option Candidate → Option Candidate → Type 0
-Apart None y = Unit {0}
-Apart (Some x) None = Unit {0}
-Apart (Some x) (Some y) = x.source.core ≡ y.source.core → ⊥
-
-abbrev pub Distinct : Cands → Type 0
-Distinct [] = Unit {0}
-Distinct (x ∷ xs) = AllByRecursion (Apart x) xs × Distinct xs
+abbrev pub CoresDiffer : Option Candidate → Option Candidate → Type 0
+CoresDiffer = Differ (λ x. x.source.core)
 
 abbrev At : ℕ → Option Candidate → Type 0
 At i None = Unit {0}
 At i (Some x) = x.source.core ≡ i
 
-apart_sym : (x y : Option Candidate) → Apart x y → Apart y x
-apart_sym None None h = h
-apart_sym None (Some y) h = h
-apart_sym (Some x) None h = h
-apart_sym (Some x) (Some y) h = λ e. h (sym e)
-
-at_apart : (i l : ℕ) (x y : Option Candidate) → (i ≡ l → ⊥) → At i x → At l y → Apart x y
-at_apart i l None y n p q = tt
-at_apart i l (Some x) None n p q = tt
-at_apart i l (Some x) (Some y) n p q = λ e. n (sym p ∙ e ∙ q)
-
-put_distinct : (x : Option Candidate) (ys : Cands) → AllByRecursion (Apart x) ys → Distinct ys → Distinct (put x ys)
-put_distinct x [] h d = (tt, tt)
-put_distinct x (y ∷ ys) h d =
-    cond_both (leb (position_of y) (position_of x)) (x ∷ y ∷ ys) (y ∷ put x ys) Distinct
-    (λ _. (h, d)) (λ _. (put_all (Apart y) x ys (apart_sym x y h.0) d.0, put_distinct x ys h.1 d.1))
-
-latest_all : (P : Option Candidate → Type 0) (xs : Cands) → AllByRecursion P xs → AllByRecursion P (latest_first xs)
-latest_all P [] h = h
-latest_all P (x ∷ xs) h = put_all P x (latest_first xs) h.0 (latest_all P xs h.1)
-
-latest_distinct : (xs : Cands) → Distinct xs → Distinct (latest_first xs)
-latest_distinct [] d = d
-latest_distinct (x ∷ xs) d = put_distinct x (latest_first xs) (latest_all (Apart x) xs d.0) (latest_distinct xs d.1)
-
-other_apart : (j k : ℕ) → other j k ≡ j → ⊥
-other_apart j k = go (ltb k j) refl
-  where
-    go : (v : Bool) → ltb k j ≡ v → cond v k (k + 1) ≡ j → ⊥
-    go true q e = let l = ltb-true k j q in omega arith
-    go false q e = let l = ltb-false k j q in omega arith
-
-other_rises : (j k l : ℕ) → k < l → other j k < other j l
-other_rises j k l h = go (ltb k j) (ltb l j) refl refl
-  where
-    go : (v u : Bool) → ltb k j ≡ v → ltb l j ≡ u → cond v k (k + 1) < cond u l (l + 1)
-    go true true p q = h
-    go true false p q = omega (arith, h)
-    go false true p q = let m = ltb-false k j p in let n = ltb-true l j q in absurd (omega (arith, h))
-    go false false p q = omega (arith, h)
+at_differ : (i l : ℕ) (x y : Option Candidate) → (i ≡ l → ⊥) → At i x → At l y → CoresDiffer x y
+at_differ i l None y n p q = tt
+at_differ i l (Some x) None n p q = tt
+at_differ i l (Some x) (Some y) n p q = λ e. n (sym p ∙ e ∙ q)
 
 module _ (b : Book) (P j : ℕ) where
   -- what core i of the session did last
@@ -105,30 +64,30 @@ module _ (b : Book) (P j : ℕ) where
       go true p q = absurd (grind arith)
       go false p q = (ltb-true a.core P q, eqb-false a.core j p, d)
 
-  candidates_are : (h : CellHistory) (w : AccessKind) → CellDone b h → AllByRecursion (Fit b P j) (candidates_of P h j w) × Distinct (candidates_of P h j w)
+  candidates_are : (h : CellHistory) (w : AccessKind) → CellDone b h → AllByRecursion (Fit b P j) (candidates_of P h j w) × Pairwise CoresDiffer (candidates_of P h j w)
   candidates_are h Read d =
       ((last_write h.last_write d.1, (tt, (tt, tt))), (nones (write_if (λ k. cond (eqb k j) false (ltb k P)) h.last_write), ((tt, tt), (tt, tt))))
     where
-      nones : (o : Option Candidate) → AllByRecursion (Apart o) (None ∷ None ∷ [])
+      nones : (o : Option Candidate) → AllByRecursion (CoresDiffer o) (None ∷ None ∷ [])
       nones None = (tt, (tt, tt))
       nones (Some x) = (tt, (tt, tt))
   candidates_are h Write d =
-      let x = from_is h (other j 0) d (other_apart j 0) in
-      let y = from_is h (other j 1) d (other_apart j 1) in
-      let z = from_is h (other j 2) d (other_apart j 2) in
+      let x = from_is h (other j 0) d (other_differs j 0) in
+      let y = from_is h (other j 1) d (other_differs j 1) in
+      let z = from_is h (other j 2) d (other_differs j 2) in
       let a = from_core P h (other j 0) in
       let e = from_core P h (other j 1) in
       let c = from_core P h (other j 2) in
       let first = other_rises j 0 1 (omega arith) in
       let last = other_rises j 1 2 (omega arith) in
-      let ab = at_apart (other j 0) (other j 1) a e (λ q. omega (arith, q, first)) x.1 y.1 in
-      let ac = at_apart (other j 0) (other j 2) a c (λ q. omega (arith, q, first, last)) x.1 z.1 in
-      let bc = at_apart (other j 1) (other j 2) e c (λ q. omega (arith, q, last)) y.1 z.1 in
+      let ab = at_differ (other j 0) (other j 1) a e (λ q. omega (arith, q, first)) x.1 y.1 in
+      let ac = at_differ (other j 0) (other j 2) a c (λ q. omega (arith, q, first, last)) x.1 z.1 in
+      let bc = at_differ (other j 1) (other j 2) e c (λ q. omega (arith, q, last)) y.1 z.1 in
       let xs = a ∷ e ∷ c ∷ [] in
-      (latest_all (Fit b P j) xs (x.0, (y.0, (z.0, tt))), latest_distinct xs ((ab, (ac, tt)), ((bc, tt), (tt, tt))))
+      (latest_all (Fit b P j) xs (x.0, (y.0, (z.0, tt))), latest_pairwise CoresDiffer (differ_flip (λ x. x.source.core)) xs ((ab, (ac, tt)), ((bc, tt), (tt, tt))))
 
   pub candidates_fit : (cells : List CellHistory) (c : ℕ) (w : AccessKind) → CellDone b (get_or cells c no_cell) →
-      AllByRecursion (Fit b P j) (candidates_at P cells c j w) × Distinct (candidates_at P cells c j w)
+      AllByRecursion (Fit b P j) (candidates_at P cells c j w) × Pairwise CoresDiffer (candidates_at P cells c j w)
   candidates_fit cells c w d =
-      cond_both (ltb j 4 && ltb c 256) (candidates_of P (get_or cells c no_cell) j w) (None ∷ None ∷ None ∷ []) (λ xs. AllByRecursion (Fit b P j) xs × Distinct xs)
+      cond_both (ltb j 4 && ltb c 256) (candidates_of P (get_or cells c no_cell) j w) (None ∷ None ∷ None ∷ []) (λ xs. AllByRecursion (Fit b P j) xs × Pairwise CoresDiffer xs)
       (λ _. candidates_are (get_or cells c no_cell) w d) (λ _. ((tt, (tt, (tt, tt))), ((tt, (tt, tt)), ((tt, tt), (tt, tt)))))

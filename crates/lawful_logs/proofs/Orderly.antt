@@ -3,11 +3,13 @@ use Rattle.std.proofs.Common.{◌≡◌, ℕ, zero, suc, ◌+◌, ◌<◌, ◌�
 use Rattle.std.proofs.lemmas.List.{length-map, get_or-set_same, get_or-set_other}
 use Rattle.std.proofs.lemmas.Bool.{cases_Bool, cases_eq, cond_both, cond-true, cond-false, eq-eqb, ne_eqb}
 use Rattle.std.specs.List.{AllByRecursion}
+use Rattle.accesses.proofs.Order.{Pairwise}
 use Rattle.accesses.specs.Histories.{no_reads, no_cell, untouched, remembered}
 use Rattle.accesses.specs.declared.access.Access.{Access}
 use Rattle.accesses.specs.declared.history.CellHistory.{CellHistory}
 use Rattle.cores.specs.Memory.{Rules, brought, stored}
 use Rattle.logs.specs.Lawful.{Holds}
+use Rattle.recorder.proofs.Passing.{Passed, passed}
 use Rattle.recorder.specs.Refusals.{Book, log_in, touched, counted_in, started}
 use Rattle.recorder.specs.Sound.{no_log}
 use Rattle.recorder.specs.Turns.{World, world, asks, Answered, Begun, begun, candidates_for, remembered_as, next_access, new_arcs, entered, refusal, Turned}
@@ -16,17 +18,18 @@ use Rattle.recorder.specs.declared.rules.Touch.{Touch}
 use Rattle.records.specs.Format.{LogArc}
 use Rattle.records.specs.Settings.{log_of, heading_of, settled}
 use Rattle.records.specs.declared.settings.Sizes.{Sizes}
-use Rattle.reducers.specs.Numbers.{Numbers}
+use Rattle.reducers.specs.Numbers.{Numbers, Meets}
+use Rattle.reducers.proofs.RowLists.{each_replicate}
 use Rattle.reducers.specs.declared.interface.AccessKind.{AccessKind}
 use Rattle.reducers.specs.declared.interface.AccessKind.TheVariants.{Read, Write}
 use Rattle.traces.proofs.Recordings.{fresh, begun_done, begun_refused, traces_are_faithful}
-use Rattle.traces.proofs.Steps.{Passed, passed, refused_turn, accepted_turn}
+use Rattle.traces.proofs.Steps.{refused_turn, accepted_turn}
 use Rattle.traces.specs.Recording.{Recording, opened, extended, recording_after}
 use Rattle.traces.specs.Trace.{none, begins, turns, refused}
 use Rattle.lawful_logs.specs.Orderly.{done_by, Done, WriteDone, ReadDone, CellDone, OrderlyLog, Orderly, TracesAreOrderly, NewIsOrderly, OrderlyIsAccepted}
 use Rattle.logs.proofs.Rules.{all_map}
 use Rattle.lawful_logs.proofs.Arcs.{all_append, arcs_target, arcs_done, arcs_lawful, lawful_append}
-use Rattle.lawful_logs.proofs.Candidates.{Fit, Distinct, candidates_fit}
+use Rattle.lawful_logs.proofs.Candidates.{Fit, CoresDiffer, candidates_fit}
 
 -- what holds of a new element and of the one that was there holds wherever one looks
 set_cell : (P : CellHistory → Type 0) (cells : List CellHistory) (c d : ℕ) (new : CellHistory) → P new → P (get_or cells d no_cell) → P (get_or (set cells c new) d no_cell)
@@ -50,15 +53,11 @@ no_read b (suc (suc zero)) = tt
 no_read b (suc (suc (suc zero))) = tt
 no_read b (suc (suc (suc (suc i)))) = tt
 
-none_remembered : (b : Book) (n c : ℕ) → CellDone b (get_or (replicate n untouched) c no_cell)
-none_remembered b zero c = ((λ i. tt), tt)
-none_remembered b (suc n) zero = (no_read b, tt)
-none_remembered b (suc n) (suc c) = none_remembered b n c
+none_remembered : (b : Book) (c : ℕ) → CellDone b (get_or (replicate 256 untouched) c no_cell)
+none_remembered b = each_replicate (CellDone b) untouched no_cell (no_read b, tt) ((λ i. tt), tt) 256
 
-none_done : (n k : ℕ) → (get_or (replicate n (record { instructions = 0; arcs = 0; end = 6 })) k no_log).instructions ≡ 0
-none_done zero k = refl
-none_done (suc n) zero = refl
-none_done (suc n) (suc k) = none_done n k
+none_done : (z : Sizes) (k : ℕ) → done_by (started z) k ≡ 0
+none_done z = each_replicate (λ l. l.instructions ≡ 0) (record { instructions = 0; arcs = 0; end = 6 }) no_log refl refl 4
 
 -- more may be done
 module _ (b b' : Book) (grows : (k : ℕ) → done_by b k ≤ done_by b' k) where
@@ -115,11 +114,11 @@ module _ (b : Book) (j arcs end : ℕ) (at : j < length b.logs) where
   ]
 
 fit_for : (b : Book) (j : ℕ) (history : List CellHistory) (touch : Option Touch) → ((c : ℕ) → CellDone b (get_or history c no_cell)) →
-    AllByRecursion (Fit b b.sizes.cores j) (candidates_for b.sizes.cores history j touch) × Distinct (candidates_for b.sizes.cores history j touch)
+    AllByRecursion (Fit b b.sizes.cores j) (candidates_for b.sizes.cores history j touch) × Pairwise CoresDiffer (candidates_for b.sizes.cores history j touch)
 fit_for b j history None all = (tt, tt)
 fit_for b j history (Some t) all = candidates_fit b b.sizes.cores j history t.cell t.kind (all t.cell)
 
-pub turn_orderly : (K : Rules) (j : ℕ) (v : World) (r : Recording) (trail : List Numbers) (m : Numbers) → length v.tape.book.logs ≡ 4 → Passed v j (asks K j v) → Orderly v r →
+turn_orderly : (K : Rules) (j : ℕ) (v : World) (r : Recording) (trail : List Numbers) (m : Numbers) → length v.tape.book.logs ≡ 4 → Passed K j v → Orderly v r →
     let request = asks K j v in
     Orderly (world (entered v.tape j request trail m) (stored request v.cells) (set v.states j (K.after (get_or v.states j []) (brought request v.cells))))
     (extended K r j (new_arcs v.tape j request trail))
@@ -162,14 +161,14 @@ turn_orderly K j v r trail m four p o =
       idle = λ i h. others b j k _ at i (λ e. omega (arith, e, h, p.here)) ∙ o.idle i h;
     }
 
-pub begin_orderly : (z : Sizes) (v : World) → Orderly (world (fresh z v.tape) v.cells v.states) (opened z v)
+begin_orderly : (z : Sizes) (v : World) → Orderly (world (fresh z v.tape) v.cells v.states) (opened z v)
 begin_orderly z v = record {
-  remembered = none_remembered (started z) 256;
+  remembered = none_remembered (started z);
   logs = λ k h. record { lawful = tt; reached = tt; sources = tt };
-  idle = λ k h. none_done 4 k;
+  idle = λ k h. none_done z k;
 }
 
-module _ (meets : Numbers → Numbers → Type 0) (K : Rules) where
+module _ (meets : Meets) (K : Rules) where
   begin_step : (z : Sizes) (v : World) (b : Begun) (r : Recording) → b ≡ begun z (length v.states) (length v.cells) v.tape → Orderly v r →
       Orderly (world b.leaves v.cells v.states) (cond (refused b.says) r (opened z v))
   begin_step z v b r e o =
@@ -191,7 +190,7 @@ module _ (meets : Numbers → Numbers → Type 0) (K : Rules) where
             subst there (sym (refused_turn meets K j v a t never)) (subst (Orderly v) (sym (cond-true (refused (refusal K j v ∷ [])) r longer says)) o)
       ]
 
-pub traces_are_orderly : (meets : Numbers → Numbers → Type 0) → TracesAreOrderly meets
+pub traces_are_orderly : (meets : Meets) → TracesAreOrderly meets
 traces_are_orderly meets K w v es r none f o = o
 traces_are_orderly meets K w v es r (begins {es = fs} {v = u} t z b e) f o = begin_step meets K z u b (recording_after t r) e (traces_are_orderly meets K w u fs r t f o)
 traces_are_orderly meets K w v es r (turns {es = fs} {v = u} t j a g) f o =
@@ -199,9 +198,9 @@ traces_are_orderly meets K w v es r (turns {es = fs} {v = u} t j a g) f o =
 
 pub new_is_orderly : NewIsOrderly
 new_is_orderly w e h = record {
-  remembered = subst (λ (cells : List CellHistory). (c : ℕ) → CellDone w.tape.book (get_or cells c no_cell)) (sym h) (none_remembered w.tape.book 256);
+  remembered = subst (λ (cells : List CellHistory). (c : ℕ) → CellDone w.tape.book (get_or cells c no_cell)) (sym h) (none_remembered w.tape.book);
   logs = λ k q. let nothing : w.tape.book.sizes.cores ≡ 0 = ap (λ (b : Book). b.sizes.cores) e in absurd (omega (arith, q, nothing));
-  idle = λ k q. ap (λ (b : Book). done_by b k) e ∙ none_done 4 k;
+  idle = λ k q. ap (λ (b : Book). done_by b k) e ∙ none_done w.tape.book.sizes k;
 }
 
 pub counts_at : (logs : List Log) (i : ℕ) → get_or (map (λ (l : Log). l.instructions) logs) i 0 ≡ (get_or logs i no_log).instructions

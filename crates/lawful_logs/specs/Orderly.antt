@@ -12,7 +12,7 @@ use Rattle.recorder.specs.declared.ledger.Log.{Log}
 use Rattle.records.specs.Format.{LogArc}
 use Rattle.records.specs.Settings.{heading_of, no_sizes}
 use Rattle.records.specs.declared.settings.Sizes.{Sizes}
-use Rattle.reducers.specs.Numbers.{Numbers}
+use Rattle.reducers.specs.Numbers.{Meets}
 use Rattle.traces.specs.Recording.{Recording, opened, recording_after, Faithful}
 use Rattle.traces.specs.Trace.{Event, Trace}
 
@@ -48,7 +48,7 @@ pub record Orderly (w : World) (r : Recording) : Type 0 where
   pub idle : (k : ℕ) → w.tape.book.sizes.cores ≤ k → done_by w.tape.book k ≡ 0
 
 -- and so it is after any calls
-abbrev pub TracesAreOrderly : (Numbers → Numbers → Type 0) → Type 0
+abbrev pub TracesAreOrderly : Meets → Type 0
 TracesAreOrderly meets =
     (K : Rules) (w v : World) (es : List Event) (r : Recording) (t : Trace meets K w es v) → Faithful w r → Orderly w r → Orderly v (recording_after t r)
 

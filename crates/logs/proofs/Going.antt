@@ -8,7 +8,7 @@ use Rattle.records.proofs.Looking.{seen_fits, held_fits, size_pos}
 use Rattle.logs.specs.Walk.{Reading, prefixed, stopped, told, walk, look, look_held, look_by, reading_from, holding_from, reading_by}
 
 -- what a step of the reader says of what was seen
-pub saw_some : (v w : View) (e : Entry) (x : Sight) → ◌≡◌ {A = Next} (record { says = Ok (Some e); reader = w }) (advanced v x) →
+saw_some : (v w : View) (e : Entry) (x : Sight) → ◌≡◌ {A = Next} (record { says = Ok (Some e); reader = w }) (advanced v x) →
     (x ≡ Ok (Some (e, w.state))) × (w ≡ moved v e w.state)
 saw_some v w e (Ok (Some (y, t))) q =
     let p = ap (λ n. n.says) q in
@@ -19,12 +19,12 @@ saw_some v w e (Ok (Some (y, t))) q =
 saw_some v w e (Ok None) q = let p = ap (λ n. n.says) q in absurd cc
 saw_some v w e (Err f) q = let p = ap (λ n. n.says) q in absurd cc
 
-pub saw_none : (v w : View) (x : Sight) → ◌≡◌ {A = Next} (record { says = Ok None; reader = w }) (advanced v x) → (x ≡ Ok None) × (w ≡ v)
+saw_none : (v w : View) (x : Sight) → ◌≡◌ {A = Next} (record { says = Ok None; reader = w }) (advanced v x) → (x ≡ Ok None) × (w ≡ v)
 saw_none v w (Ok (Some (y, t))) q = let p = ap (λ n. n.says) q in absurd cc
 saw_none v w (Ok None) q = (refl, ap (λ n. n.reader) q)
 saw_none v w (Err f) q = let p = ap (λ n. n.says) q in absurd cc
 
-pub saw_fault : (v w : View) (d : Fault) (x : Sight) → ◌≡◌ {A = Next} (record { says = Err d; reader = w }) (advanced v x) → x ≡ Err d
+saw_fault : (v w : View) (d : Fault) (x : Sight) → ◌≡◌ {A = Next} (record { says = Err d; reader = w }) (advanced v x) → x ≡ Err d
 saw_fault v w d (Ok (Some (y, t))) q = let p = ap (λ n. n.says) q in absurd cc
 saw_fault v w d (Ok None) q = let p = ap (λ n. n.says) q in absurd cc
 saw_fault v w d (Err f) q = let p = ap (λ n. n.says) q in (let same : f ≡ d = cc in ap Err same)
@@ -34,7 +34,7 @@ module _ (see : View → Sight) (v : View) (f : ℕ) where
   pub walk_some : (e : Entry) (t : State) → see v ≡ Ok (Some (e, t)) → walk see (suc f) v ≡ prefixed e (walk see f (moved v e t))
   walk_some e t q = ap (λ x. told x v.state (λ e t. prefixed e (walk see f (moved v e t)))) q
 
-  pub walk_none : see v ≡ Ok None → walk see (suc f) v ≡ stopped (Ok (instructions_in v.state))
+  walk_none : see v ≡ Ok None → walk see (suc f) v ≡ stopped (Ok (instructions_in v.state))
   walk_none q = ap (λ x. told x v.state (λ e t. prefixed e (walk see f (moved v e t)))) q
 
   pub walk_fault : (d : Fault) → see v ≡ Err d → walk see (suc f) v ≡ stopped (Err d)
@@ -47,21 +47,21 @@ pub record Going {Y : Type 0} (G : Reading → Y) (see : View → Sight) (all : 
   pub same : G (walk see fuel v) ≡ all
 
 module _ {Y : Type 0} (G : Reading → Y) (see : View → Sight) (all : Y) (v : View) (w : Going G see all v) where
-  pub going_fault : (d : Fault) → see v ≡ Err d → G (stopped (Err d)) ≡ all
+  going_fault : (d : Fault) → see v ≡ Err d → G (stopped (Err d)) ≡ all
   going_fault d q = go w.fuel w.enough w.same
     where
       go : (f : ℕ) → length v.log - v.cursor < f → G (walk see f v) ≡ all → G (stopped (Err d)) ≡ all
       go zero h p = absurd (omega arith)
       go (suc f) h p = sym (ap G (walk_fault see v f d q)) ∙ p
 
-  pub going_none : see v ≡ Ok None → G (stopped (Ok (instructions_in v.state))) ≡ all
+  going_none : see v ≡ Ok None → G (stopped (Ok (instructions_in v.state))) ≡ all
   going_none q = go w.fuel w.enough w.same
     where
       go : (f : ℕ) → length v.log - v.cursor < f → G (walk see f v) ≡ all → G (stopped (Ok (instructions_in v.state))) ≡ all
       go zero h p = absurd (omega arith)
       go (suc f) h p = sym (ap G (walk_none see v f q)) ∙ p
 
-  pub going_some : (e : Entry) (t : State) → see v ≡ Ok (Some (e, t)) → length (bytes_of e) ≤ length v.log - v.cursor →
+  going_some : (e : Entry) (t : State) → see v ≡ Ok (Some (e, t)) → length (bytes_of e) ≤ length v.log - v.cursor →
       (H : Reading → Y) → ((x : Reading) → G (prefixed e x) ≡ H x) → Going H see all (moved v e t)
   going_some e t q fits H past = go w.fuel w.enough w.same
     where
@@ -74,14 +74,14 @@ pub reading_starts : {Y : Type 0} (G : Reading → Y) (v : View) → Going G loo
 unfolding reading_from
 reading_starts G v = record { fuel = suc (length v.log); enough = omega arith; same = refl }
 
-pub holding_starts : {Y : Type 0} (G : Reading → Y) (counts : List ℕ) (v : View) → Going G (look_held counts) (G (holding_from counts v)) v
+holding_starts : {Y : Type 0} (G : Reading → Y) (counts : List ℕ) (v : View) → Going G (look_held counts) (G (holding_from counts v)) v
 unfolding holding_from
 holding_starts G counts v = record { fuel = suc (length v.log); enough = omega arith; same = refl }
 
 pub look_fits : (v : View) (e : Entry) (t : State) → look v ≡ Ok (Some (e, t)) → length (bytes_of e) ≤ length v.log - v.cursor
 look_fits v e t q = seen_fits v.heading v.log v.cursor v.state e t q
 
-pub held_look_fits : (counts : List ℕ) (v : View) (e : Entry) (t : State) → look_held counts v ≡ Ok (Some (e, t)) → length (bytes_of e) ≤ length v.log - v.cursor
+held_look_fits : (counts : List ℕ) (v : View) (e : Entry) (t : State) → look_held counts v ≡ Ok (Some (e, t)) → length (bytes_of e) ≤ length v.log - v.cursor
 held_look_fits counts v e t q = held_fits counts v.heading v.log v.cursor v.state e t q
 
 pub starts_by : {Y : Type 0} (G : Reading → Y) (held : Option (List ℕ)) (v : View) → Going G (look_by held) (G (reading_by held v)) v

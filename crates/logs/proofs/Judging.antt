@@ -40,17 +40,17 @@ module _ (g : Heading) (log : List ℕ) where
   Stood es = log ≡ written es ++ drop (length (written es)) log
 
   -- after the end nothing more is read
-  pub walk_ended : (f : ℕ) (es : List Entry) (n : ℕ) → walk look f (behind es (After n)) ≡ stopped (Ok n)
+  walk_ended : (f : ℕ) (es : List Entry) (n : ℕ) → walk look f (behind es (After n)) ≡ stopped (Ok n)
   walk_ended zero es n = refl
   walk_ended (suc f) es n = refl
 
   pub push_size : (es : List Entry) (e : Entry) → length (written (es ++ (e ∷ []))) ≡ length (written es) + length (bytes_of e)
   push_size es e = ap length (written_append es (e ∷ [])) ∙ length-append (written es) (bytes_of e ++ []) ∙ ap (λ x. length (written es) + length x) (append-nil (bytes_of e))
 
-  pub moved_behind : (es : List Entry) (s t : State) (e : Entry) → moved (behind es s) e t ≡ behind (es ++ (e ∷ [])) t
+  moved_behind : (es : List Entry) (s t : State) (e : Entry) → moved (behind es s) e t ≡ behind (es ++ (e ∷ [])) t
   moved_behind es s t e = λ i. record { heading = g; log = log; cursor = sym (push_size es e) i; state = t }
 
-  pub stood_push : (es : List Entry) (e : Entry) (rest : List ℕ) → Stood es → drop (length (written es)) log ≡ bytes_of e ++ rest → Stood (es ++ (e ∷ []))
+  stood_push : (es : List Entry) (e : Entry) (rest : List ℕ) → Stood es → drop (length (written es)) log ≡ bytes_of e ++ rest → Stood (es ++ (e ∷ []))
   stood_push es e rest at here =
       let c = length (written es) in
       let d : drop (length (written (es ++ (e ∷ [])))) log ≡ rest =

@@ -40,7 +40,7 @@ module _ (g : Heading) (log : List ℕ) (n k : ℕ) where
   Path v (a ∷ more) = (t : State) × (look v ≡ Ok (Some (arc a, t))) × Path (moved v (arc a) t) more
 
   module _ (four : g.cores ≤ 4) (few : k ≤ 65535) (rest : List ℕ) where
-    pub path_from : (before more : List LogArc) (c last : ℕ) (latest : List ℕ) (m : ℕ) → Knows before last latest m → Lawful g (before ++ more) → AllByRecursion (λ b. b.target ≤ n) before → AllByRecursion (λ b. b.target ≤ n) more →
+    path_from : (before more : List LogArc) (c last : ℕ) (latest : List ℕ) (m : ℕ) → Knows before last latest m → Lawful g (before ++ more) → AllByRecursion (λ b. b.target ≤ n) before → AllByRecursion (λ b. b.target ≤ n) more →
         length before + length more ≡ k → drop c log ≡ written (map arc more ++ (end n k ∷ [])) ++ rest → Path (at c (Among last latest m)) more
     path_from before [] c last latest m w l r₁ r₂ size here =
         let low : last ≤ n = elim w.last_is [
@@ -79,7 +79,7 @@ module _ (g : Heading) (log : List ℕ) (n k : ℕ) where
   over (suc f) v e = refl
 
   -- the walk along a path
-  pub path_read : (f : ℕ) (v : View) (more : List LogArc) → length more < f → Path v more → walk look f v ≡ record { entries = map arc more ++ (end n k ∷ []); verdict = Ok n }
+  path_read : (f : ℕ) (v : View) (more : List LogArc) → length more < f → Path v more → walk look f v ≡ record { entries = map arc more ++ (end n k ∷ []); verdict = Ok n }
   path_read zero v more h p = absurd (omega arith)
   path_read (suc f) v [] h p = walk_some look v f (end n k) (After n) p ∙ ap (prefixed (end n k)) (over f v (end n k))
   path_read (suc f) v (a ∷ more) h p =
@@ -102,7 +102,7 @@ module _ (g : Heading) (log : List ℕ) (n k : ℕ) where
     held_on before a more verdict h (inr (fr, b, back, split, within, beyond, q)) =
         inr (a ∷ fr, b, back, ap (λ x. a ∷ x) split, (h, within), beyond, q ∙ ap (λ x. Err (broken 3 g.core (length (written (front g x))) 6)) (append_assoc before (a ∷ []) fr))
 
-    pub path_held : (f c : ℕ) (s : State) (before more : List LogArc) → length more < f → c ≡ length (written (front g before)) → Path (at c s) more → Held (walk (look_held counts) f (at c s)).verdict before more
+    path_held : (f c : ℕ) (s : State) (before more : List LogArc) → length more < f → c ≡ length (written (front g before)) → Path (at c s) more → Held (walk (look_held counts) f (at c s)).verdict before more
     path_held zero c s before more h size p = absurd (omega arith)
     path_held (suc f) c s before [] h size p =
         inl (tt, ap (λ x. x.verdict) (walk_some (look_held counts) (at c s) f (end n k) (After n) (ap (held_at counts g c) p) ∙ ap (prefixed (end n k)) (over_held f (at c s) (end n k))))

@@ -60,8 +60,8 @@ pub record Knows (xs : List LogArc) (last : ℕ) (latest : List ℕ) (m : ℕ) :
   pub number : m ≡ min (length xs) 65536
   pub last_is : (last ≡ 0) ⊎ Any (λ b. b.target ≡ last) xs
   pub below : AllByRecursion (λ b. b.target ≤ last) xs
-  pub latest_is : (i : ℕ) → (get_or latest i 0 ≡ 0) ⊎ Any (λ b. (b.target ≡ get_or latest i 0) × (b.source ≡ i)) xs
-  pub latest_top : AllByRecursion (λ b. b.target ≡ last → get_or latest b.source 0 ≡ last) xs
+  latest_is : (i : ℕ) → (get_or latest i 0 ≡ 0) ⊎ Any (λ b. (b.target ≡ get_or latest i 0) × (b.source ≡ i)) xs
+  latest_top : AllByRecursion (λ b. b.target ≡ last → get_or latest b.source 0 ≡ last) xs
 
 -- a row of one value holds it everywhere, also behind its end
 pub all_alike : {X : Type 0} (n k : ℕ) (d : X) → get_or (replicate n d) k d ≡ d

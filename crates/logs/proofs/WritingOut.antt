@@ -131,7 +131,7 @@ module _ (store : List ℕ) (z : Sizes) (octets : AllByRecursion (λ b. b < 256)
         surplus = p.surplus ∙ drop_behind (z.cores * L) (j * L + 0) (bytes j) out (omega (arith, log_inside j z.cores L h)) (omega arith);
       })
 
-  pub restores : (out : List ℕ) → fits (length out) z ≡ true → z.cores * z.log_bytes ≤ length out → Restored store z out (all_copied store z z.cores 0 out)
+  restores : (out : List ℕ) → fits (length out) z ≡ true → z.cores * z.log_bytes ≤ length out → Restored store z out (all_copied store z z.cores 0 out)
   restores out f room =
       let p = put z.cores 0 out (omega arith) f room in
       record {

@@ -65,7 +65,7 @@ overlay F es bs rest h =
     ∙ ap (λ q. q ++ (bs ++ drop (length F + length bs) (F ++ (es ++ rest)))) (take_at F (es ++ rest) (length F) refl)
     ∙ ap (λ q. F ++ (bs ++ q)) far
 
-pub arcs_bytes : (arcs : List LogArc) → length (written (map arc arcs)) ≡ 7 * length arcs
+arcs_bytes : (arcs : List LogArc) → length (written (map arc arcs)) ≡ 7 * length arcs
 arcs_bytes [] = refl
 arcs_bytes (a ∷ more) = omega (arith, arcs_bytes more, length-append (bytes_of (arc a)) (written (map arc more)))
 

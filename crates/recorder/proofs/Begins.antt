@@ -1,4 +1,4 @@
--- The two ways of begin.
+-- A begin that is refused, and one that is not, leave what `begun` says.
 use Rattle.std.proofs.Common.{◌≡◌, ℕ, true, false, List, [], ◌∷◌, length, replicate, sym, ◌∙◌}
 use Rattle.std.proofs.lemmas.Bool.{cond-true, cond-false}
 use Rattle.accesses.specs.Histories.{untouched}

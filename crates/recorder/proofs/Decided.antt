@@ -5,14 +5,14 @@ use Rattle.accesses.specs.declared.access.Candidate.{Candidate}
 use Rattle.accesses.specs.declared.history.CellHistory.{CellHistory}
 use Rattle.cores.specs.Memory.{Rules}
 use Rattle.reducers.specs.Calls.{Call, takes, notes, Does}
-use Rattle.reducers.specs.Numbers.{Numbers, core?, cell?, taken, noted}
+use Rattle.reducers.specs.Numbers.{Numbers, Meets, core?, cell?, taken, noted}
 use Rattle.recorder.specs.Decided.{Decides, called_by, judged_by, trail_by, trail_for, noted_for, turned_by, OneOutcome}
 use Rattle.recorder.specs.Judged.{known?, take_of, Steps, Judged, none, then, last_of}
 use Rattle.recorder.specs.Refusals.{touched}
 use Rattle.recorder.specs.Turns.{candidates_for, Within, World, asks, refusal, turned}
 use Rattle.recorder.specs.declared.rules.Touch.{Touch}
 
-module _ (meets : Numbers → Numbers → Type 0) (F : Numbers → Numbers) (one : Decides meets F) where
+module _ (meets : Meets) (F : Numbers → Numbers) (one : Decides meets F) where
   bound_is : (v : Bool) (n m b : Numbers) → MatchBool v (meets m b) (m ≡ n) → m ≡ cond v (F b) n
   bound_is true n m b h = one m b h
   bound_is false n m b h = h
@@ -50,7 +50,7 @@ same_refused K j w ms ns m n never =
     let e = ne_eqb (refusal K j w) 0 never in
     cond-false (eqb (refusal K j w) 0) _ _ e ∙ sym (cond-false (eqb (refusal K j w) 0) _ _ e)
 
-pub one_outcome : (meets : Numbers → Numbers → Type 0) → OneOutcome meets
+pub one_outcome : (meets : Meets) → OneOutcome meets
 unfolding turned_by
 one_outcome meets F one K j w o f =
     f.same ∙ elim (cases_eq (refusal K j w) 0) [

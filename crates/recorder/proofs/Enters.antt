@@ -8,7 +8,7 @@ use Rattle.records.proofs.Splices.{splice_none}
 use Rattle.records.specs.Format.{Entry, arc, end, bytes_of, written, splice}
 use Rattle.records.specs.Settings.{fits}
 use Rattle.records.specs.declared.settings.Sizes.{Sizes}
-use Rattle.reducers.specs.Numbers.{Numbers}
+use Rattle.reducers.specs.Numbers.{Numbers, Meets}
 use Rattle.recorder.specs.Judged.{moved}
 use Rattle.recorder.specs.Refusals.{Book, log_in, touched, barred, counted_in}
 use Rattle.recorder.specs.Turns.{candidates_for, remembered_as, Accessed, Tape, new_arcs, next_access, Entered}
@@ -18,7 +18,7 @@ use Rattle.recorder.proofs.Rooms.{arcs_size, turn_fits}
 use Rattle.recorder.proofs.Trails.{moved_none, put_put}
 
 -- what touches no cell leaves all as it was
-pub accessed_none : (meets : Numbers → Numbers → Type 0) (z : Sizes) (history : List CellHistory) (by : Access) (touch : Option Touch) (n : Numbers) (t : Tail) (store : List ℕ) →
+pub accessed_none : (meets : Meets) (z : Sizes) (history : List CellHistory) (by : Access) (touch : Option Touch) (n : Numbers) (t : Tail) (store : List ℕ) →
     touch ≡ None → Accessed meets z history by touch n n t store t store
 accessed_none meets z history by touch n t store e =
     let a : Accessed meets z history by None n n t store t store =
@@ -26,7 +26,7 @@ accessed_none meets z history by touch n t store e =
     in
     subst (λ o. Accessed meets z history by o n n t store t store) (sym e) a
 
-module _ (meets : Numbers → Numbers → Type 0) (t : Tape) (j : ℕ) (request : Request) where
+module _ (meets : Meets) (t : Tape) (j : ℕ) (request : Request) where
   abbrev base : ℕ
   base = j * t.book.sizes.log_bytes
 

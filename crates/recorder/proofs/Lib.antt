@@ -1,5 +1,6 @@
 mod Counts
 pub mod Trails
+pub mod Passing
 pub mod Rooms
 mod Enters
 mod Begins

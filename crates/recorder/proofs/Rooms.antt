@@ -1,5 +1,5 @@
--- What fits where: logs in the store, and records in their log.
-use Rattle.std.proofs.Common.{◌≡◌, ℕ, suc, ◌+◌, ◌-◌, ◌*◌, ◌<◌, ◌≤◌, Bool, true, false, cond, eqb, List, [], ◌∷◌, map, length, Some, None, Option, refl, ap, ◌∙◌, arith}
+-- Logs fit in a store of their sizes, and a turn that is not barred has room for its arcs and its end record.
+use Rattle.std.proofs.Common.{◌≡◌, ℕ, suc, ◌+◌, ◌-◌, ◌*◌, ◌<◌, ◌≤◌, true, false, List, [], ◌∷◌, map, length, Some, None, Option, refl, ap, ◌∙◌, arith}
 use Rattle.std.proofs.lemmas.List.{length-append}
 use Rattle.std.proofs.lemmas.Bool.{ltb-false}
 use Rattle.std.proofs.lemmas.Bool.Decides.{nat_tests}
@@ -8,7 +8,6 @@ use Rattle.accesses.specs.Histories.{present}
 use Rattle.accesses.specs.declared.access.Access.{Access}
 use Rattle.accesses.specs.declared.access.Candidate.{Candidate}
 use Rattle.accesses.specs.declared.history.CellHistory.{CellHistory}
-use Rattle.cores.specs.Acting.{within}
 use Rattle.cores.specs.declared.interface.Request.{Request}
 pub use Rattle.logs.proofs.WritingOut.{log_inside}
 use Rattle.records.proofs.Splices.{splice_splice}
@@ -17,9 +16,10 @@ use Rattle.records.specs.Settings.{fits}
 use Rattle.records.specs.declared.settings.Sizes.{Sizes}
 use Rattle.reducers.specs.Numbers.{Numbers}
 use Rattle.recorder.specs.Judged.{fresh, arcs_to}
-use Rattle.recorder.specs.Refusals.{Book, log_in, halts, touched, full, barred}
+use Rattle.recorder.specs.Refusals.{Book, log_in, touched, full, barred}
 use Rattle.recorder.specs.Turns.{candidates_for, headed, headed_from}
 use Rattle.recorder.specs.declared.rules.Touch.{Touch}
+use Rattle.recorder.proofs.Passing.{unbarred}
 use Rattle.recorder.proofs.Trails.{fresh_few, arcs_append}
 
 -- what sizes that fit a store come to
@@ -51,17 +51,7 @@ arcs_size by n (x ∷ xs) (m ∷ ms) =
     let v = ap length (arcs_append F A) ∙ length-append (written (map arc F)) (written (map arc A)) in
     (omega (arith, p.0, q.0, u, v), omega (arith, p.1, q.1, u))
 
-passed : (a b c d : Bool) → ◌≡◌ {A = ℕ} (cond a 2 (cond b 3 (cond c (cond d 5 0) 4))) 0 → d ≡ false
-passed true b c d e = absurd (omega arith)
-passed false true c d e = absurd (omega arith)
-passed false false false d e = absurd (omega arith)
-passed false false true true e = absurd (omega arith)
-passed false false true false e = refl
-
 module _ (b : Book) (j : ℕ) (request : Request) (e : barred b j request ≡ 0) where
-  not_full : full b j (touched request) ≡ false
-  not_full = passed (halts request) (eqb (log_in b j).instructions 65535) (within request b.sizes.cells) (full b j (touched request)) e
-
   -- so many arcs fit as there are candidates, and the end record behind them
   pub turn_fits : (history : List CellHistory) (bytes : ℕ) → fits bytes b.sizes ≡ true → j < b.sizes.cores →
       6 + 7 * (log_in b j).arcs ≤ (log_in b j).end → (log_in b j).end + 6 ≤ b.sizes.log_bytes →
@@ -69,7 +59,7 @@ module _ (b : Book) (j : ℕ) (request : Request) (e : barred b j request ≡ 0)
       ((log_in b j).end + 7 * k + 6 ≤ b.sizes.log_bytes) × ((log_in b j).arcs + 3 ≤ 65535)
   turn_fits history bytes f here behind inside k h =
       let z = fitting bytes b.sizes f in
-      let room = go (touched request) not_full in
+      let room = go (touched request) (unbarred b j request e).roomy in
       (omega (arith, room, h), omega (arith, z.short))
     where
       go : (o : Option Touch) → full b j o ≡ false →

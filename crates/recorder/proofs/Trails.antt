@@ -8,7 +8,7 @@ use Rattle.logs.proofs.Judging.{written_append}
 use Rattle.records.proofs.Splices.{splice_none, splice_splice}
 use Rattle.records.specs.Format.{LogArc, arc, written, splice}
 use Rattle.records.specs.declared.settings.Sizes.{Sizes}
-use Rattle.reducers.specs.Numbers.{Numbers}
+use Rattle.reducers.specs.Numbers.{Numbers, Meets}
 use Rattle.recorder.specs.Judged.{known?, Steps, Judged, none, then, fresh, arcs_to, last_of, moved, Logged}
 use Rattle.recorder.specs.declared.arcs.Tail.{Tail}
 
@@ -45,7 +45,7 @@ put_put base t xs bs store h =
     ap (λ i. splice i bs (splice (base + t.offset) (written (map arc xs)) store)) e
     ∙ splice_splice (base + t.offset) (written (map arc xs)) bs store h
 
-module _ (meets : Numbers → Numbers → Type 0) (z : Sizes) (c : ℕ) (by : Access) where
+module _ (meets : Meets) (z : Sizes) (c : ℕ) (by : Access) where
   abbrev base : ℕ
   base = by.core * z.log_bytes
 

@@ -2,20 +2,16 @@
 use Rattle.std.proofs.Common.{◌≡◌, ℕ, ◌+◌, ◌<◌, ◌≤◌, Bool, true, false, cond, eqb, ltb, List, [], ◌∷◌, map, length, get_or, take, set, Some, None, sym, refl, ap, ◌∙◌, subst, arith}
 use Rattle.std.proofs.lemmas.List.{length-map, length-take-le, take-map, get_or-take}
 use Rattle.std.proofs.lemmas.Bool.{cond-true, cond-false, eq-eqb, ne_eqb, le-leb, lt-leb, ltb-true, ltb-false}
-use Rattle.std.proofs.lemmas.Bool.Decides.{nat_tests}
-use Rattle.cores.specs.Acting.{requested, within}
-use Rattle.cores.specs.Memory.{Rules, brought, stored}
+use Rattle.cores.specs.Acting.{requested}
+use Rattle.cores.specs.Memory.{Rules, rules, brought, stored}
 use Rattle.cores.specs.declared.interface.Request.{Request}
 use Rattle.records.specs.Settings.{settled}
-use Rattle.records.specs.declared.settings.Sizes.{Sizes}
-use Rattle.reducers.specs.Numbers.{Numbers}
-use Rattle.recorder.specs.Refusals.{Book, log_in, number_of, halts, touched, full, barred}
-use Rattle.recorder.specs.Turns.{Tape, World, world, Answered, answered, done_said, asks, rules, refusal, turned, Within, new_arcs, entered, Entered, Turned}
+use Rattle.reducers.specs.Numbers.{Meets}
+use Rattle.recorder.specs.Refusals.{log_in, number_of, touched, barred}
+use Rattle.recorder.specs.Turns.{Tape, World, world, Answered, answered, done_said, asks, refusal, turned, Within, new_arcs, entered, Entered, Turned}
 use Rattle.recorder.specs.declared.rules.Refusal.{Refusal}
+use Rattle.recorder.proofs.Passing.{settled_parts}
 use Rattle.recorder.specs.declared.rules.Refusal.TheVariants.{NoSuchCore, Halted, CountSpent, NoSuchCell, LogFull, BadSetting}
-
-settled_cores : (z : Sizes) (cores cells bytes : ℕ) → true ≡ settled z cores cells bytes → z.cores ≤ cores
-settled_cores z cores cells bytes e = grind (arith, nat_tests)
 
 pub number_not_zero : (r : Refusal) → number_of r ≡ 0 → ⊥
 number_not_zero NoSuchCore e = omega arith
@@ -25,17 +21,7 @@ number_not_zero NoSuchCell e = omega arith
 number_not_zero LogFull e = omega arith
 number_not_zero BadSetting e = omega arith
 
--- what is not barred names a cell of the session
-pub in_cells : (b : Book) (j : ℕ) (request : Request) → barred b j request ≡ 0 → within request b.sizes.cells ≡ true
-in_cells b j request e = go (halts request) (eqb (log_in b j).instructions 65535) (within request b.sizes.cells) (full b j (touched request)) e
-  where
-    go : (a c d f : Bool) → ◌≡◌ {A = ℕ} (cond a 2 (cond c 3 (cond d (cond f 5 0) 4))) 0 → d ≡ true
-    go true c d f e = absurd (omega arith)
-    go false true d f e = absurd (omega arith)
-    go false false false f e = absurd (omega arith)
-    go false false true f e = refl
-
-module _ (meets : Numbers → Numbers → Type 0) (K : Rules) (j : ℕ) (w : World) where
+module _ (meets : Meets) (K : Rules) (j : ℕ) (w : World) where
   -- a refusal's number alone says what a refused turn comes to
   refused_is : (r : ℕ) → refusal K j w ≡ r → (r ≡ 0 → ⊥) → Turned meets K j w (answered (r ∷ []) w)
   unfolding turned
@@ -98,7 +84,7 @@ module _ {K : Type 0} (state : K → List ℕ) (next : List ℕ → List ℕ →
       go false q d = absurd cc
 
 module _
-    {K : Type 0} (state : K → List ℕ) (meets : Numbers → Numbers → Type 0)
+    {K : Type 0} (state : K → List ℕ) (meets : Meets)
     (next : List ℕ → List ℕ → Request) (after : List ℕ → List ℕ → ℕ → List ℕ)
     (text : List ℕ) (cores : List K) (cells : List ℕ) (t : Tape) (j : ℕ)
   where
@@ -116,7 +102,7 @@ module _
 
     module _ (set_up : true ≡ settled t.book.sizes (length cores) (length cells) (length t.store)) where
       pub enough : t.book.sizes.cores ≤ length cores
-      enough = settled_cores t.book.sizes (length cores) (length cells) (length t.store) set_up
+      enough = (settled_parts t.book.sizes (length cores) (length cells) (length t.store) (sym set_up)).1
 
       pub no_core : None ≡ requested next text (map state (take t.book.sizes.cores cores)) j → Turned meets kind j before (answered (1 ∷ []) before)
       unfolding refusal

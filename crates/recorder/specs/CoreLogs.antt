@@ -1,6 +1,5 @@
 -- A core's log while an access is recorded.
-use Rattle.std.specs.Prelude.{◌≡◌, ℕ, ◌+◌, ◌*◌, List, length}
-use Rattle.records.specs.Format.{Entry, bytes_of, splice}
+use Rattle.std.specs.Prelude.{◌≡◌}
 use Rattle.recorder.specs.declared.arcs.CoreLog.{CoreLog}
 
 -- the same log of the same store, for the same access

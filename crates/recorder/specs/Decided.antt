@@ -3,25 +3,22 @@ use Rattle.std.specs.Prelude.{◌≡◌, ℕ, cond, ◌&&◌, List, [], ◌∷�
 use Rattle.accesses.specs.declared.access.Candidate.{Candidate}
 use Rattle.cores.specs.Memory.{Rules}
 use Rattle.reducers.specs.Calls.{Call, takes, notes}
-use Rattle.reducers.specs.Numbers.{Numbers, zeros, core?, cell?, taken, noted}
+use Rattle.reducers.specs.Numbers.{Numbers, Meets, zeros, core?, cell?, taken, noted}
 use Rattle.recorder.specs.Judged.{known?, take_of, last_of}
 use Rattle.recorder.specs.Refusals.{touched}
 use Rattle.recorder.specs.Turns.{candidates_for, World, asks, Answered, turned, Turned}
 use Rattle.recorder.specs.declared.rules.Touch.{Touch}
 
 -- whatever meets a bound is what F makes of it
-abbrev pub Decides : (Numbers → Numbers → Type 0) → (Numbers → Numbers) → Type 0
+abbrev pub Decides : Meets → (Numbers → Numbers) → Type 0
 Decides meets F = (n b : Numbers) → meets n b → n ≡ F b
 
--- what the reducers make of a bound: exact the bound itself, keep-all 0, pairwise only what is known
+-- what two reducers make of a bound: exact the bound itself, keep-all 0; pairwise makes `known_only` of it
 abbrev pub exactly : Numbers → Numbers
 exactly b = b
 
 abbrev pub nothing : Numbers → Numbers
 nothing b = zeros
-
-abbrev pub known_only : Numbers → Numbers
-known_only b = record { known = b.known; written = λ _ _. 0; read = λ _ _ _. 0 }
 
 module _ (F : Numbers → Numbers) where
   -- the numbers after a call
@@ -57,6 +54,6 @@ module _ (F : Numbers → Numbers) where
       turned K j w trail (noted_for j touch (last_of t.numbers trail))
 
 -- a reducer that has one choice gives a turn one outcome
-abbrev pub OneOutcome : (Numbers → Numbers → Type 0) → Type 0
+abbrev pub OneOutcome : Meets → Type 0
 OneOutcome meets =
     (F : Numbers → Numbers) → Decides meets F → (K : Rules) (j : ℕ) (w : World) (o : Answered) → Turned meets K j w o → o ≡ turned_by F K j w

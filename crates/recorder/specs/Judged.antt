@@ -5,7 +5,7 @@ use Rattle.accesses.specs.declared.access.Candidate.{Candidate}
 use Rattle.records.specs.Format.{LogArc, arc, written, splice}
 use Rattle.records.specs.declared.settings.Sizes.{Sizes}
 use Rattle.reducers.specs.Calls.{Call, takes, Does}
-use Rattle.reducers.specs.Numbers.{Numbers, knows}
+use Rattle.reducers.specs.Numbers.{Numbers, Meets, knows}
 use Rattle.recorder.specs.declared.arcs.Tail.{Tail}
 
 -- whether a reducer with the numbers n answers yes about x and j
@@ -17,12 +17,12 @@ abbrev pub take_of : ℕ → ℕ → Candidate → Call
 take_of c j x = takes x.source.core x.source.count c x.kind j
 
 -- m may be a reducer's numbers once a candidate was judged: what is known is not taken
-abbrev pub Steps : (Numbers → Numbers → Type 0) → ℕ → ℕ → Numbers → Option Candidate → Numbers → Type 0
+abbrev pub Steps : Meets → ℕ → ℕ → Numbers → Option Candidate → Numbers → Type 0
 Steps meets c j n None m = m ≡ n
 Steps meets c j n (Some x) m = MatchBool (known? j n x) (m ≡ n) (Does meets n (take_of c j x) m)
 
 -- the numbers after each candidate, each by the rule from the one before
-pub data Judged (meets : Numbers → Numbers → Type 0) (c j : ℕ) : Numbers → List (Option Candidate) → List Numbers → Type 0 where
+pub data Judged (meets : Meets) (c j : ℕ) : Numbers → List (Option Candidate) → List Numbers → Type 0 where
   none : {n : Numbers} → Judged meets c j n [] []
   then : {n m : Numbers} {x : Option Candidate} {xs : List (Option Candidate)} {ms : List Numbers} →
       Steps meets c j n x m → Judged meets c j m xs ms → Judged meets c j n (x ∷ xs) (m ∷ ms)
@@ -47,7 +47,7 @@ abbrev pub moved : Tail → List LogArc → Tail
 moved t arcs = record { offset = t.offset + length (written (map arc arcs)); arcs = t.arcs + length arcs }
 
 -- the candidates xs were judged, and their arcs appended to the log of the access's core
-pub record Logged (meets : Numbers → Numbers → Type 0) (z : Sizes) (c : ℕ) (by : Access) (n : Numbers) (xs : List (Option Candidate)) (n' : Numbers)
+pub record Logged (meets : Meets) (z : Sizes) (c : ℕ) (by : Access) (n : Numbers) (xs : List (Option Candidate)) (n' : Numbers)
     (t : Tail) (store : List ℕ) (t' : Tail) (store' : List ℕ) : Type 0 where
   pub trail : List Numbers
   pub judged : Judged meets c by.core n xs trail

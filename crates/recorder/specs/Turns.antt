@@ -12,7 +12,7 @@ use Rattle.records.specs.Format.{LogArc, arc, end, written, splice}
 use Rattle.records.specs.Settings.{heading_of, settled}
 use Rattle.records.specs.declared.settings.Sizes.{Sizes}
 use Rattle.reducers.specs.Calls.{notes, Does}
-use Rattle.reducers.specs.Numbers.{Numbers, zeros}
+use Rattle.reducers.specs.Numbers.{Numbers, Meets, zeros}
 use Rattle.recorder.specs.Judged.{Judged, arcs_to, last_of, moved}
 use Rattle.recorder.specs.Refusals.{Book, book, number_of, touched, barred, log_in, counted_in, started}
 use Rattle.recorder.specs.declared.arcs.Tail.{Tail}
@@ -40,13 +40,13 @@ remembered_as history by None = history
 remembered_as history by (Some t) = remembering history t.cell by t.kind
 
 -- the numbers after each candidate, and m after the note, each meets its bound from the one before
-abbrev pub Within : (Numbers → Numbers → Type 0) → ℕ → List CellHistory → ℕ → Option Touch → Numbers → List Numbers → Numbers → Type 0
+abbrev pub Within : Meets → ℕ → List CellHistory → ℕ → Option Touch → Numbers → List Numbers → Numbers → Type 0
 Within meets P history j None n trail m = (trail ≡ []) × (m ≡ n)
 Within meets P history j (Some t) n trail m =
     Judged meets t.cell j n (candidates_at P history t.cell j t.kind) trail × Does meets (last_of n trail) (notes j t.cell t.kind) m
 
 -- the arcs of an access were appended and taken, and the access noted
-pub record Accessed (meets : Numbers → Numbers → Type 0) (z : Sizes) (history : List CellHistory) (by : Access) (touch : Option Touch) (n n' : Numbers)
+pub record Accessed (meets : Meets) (z : Sizes) (history : List CellHistory) (by : Access) (touch : Option Touch) (n n' : Numbers)
     (t : Tail) (store : List ℕ) (t' : Tail) (store' : List ℕ) : Type 0 where
   pub trail : List Numbers
   pub within : Within meets z.cores history by.core touch n trail n'
@@ -90,7 +90,7 @@ entered t j request trail m =
       numbers = m;
     }
 
-pub record Entered (meets : Numbers → Numbers → Type 0) (t : Tape) (j : ℕ) (request : Request) (arcs : ℕ) (t' : Tape) : Type 0 where
+pub record Entered (meets : Meets) (t : Tape) (j : ℕ) (request : Request) (arcs : ℕ) (t' : Tape) : Type 0 where
   pub trail : List Numbers
   pub last : Numbers
   pub within : Within meets t.book.sizes.cores t.history j (touched request) t.numbers trail last
@@ -109,10 +109,6 @@ world t cells states = record { tape = t; cells = cells; states = states }
 -- the recorder, the cores, the cells and the store, by what they mean
 abbrev pub scene : {R K : Type 0} → (R → Numbers) → (K → List ℕ) → Recorder R → List K → List ℕ → List ℕ → World
 scene numbers state r cores cells store = world (tape numbers r store) cells (map state cores)
-
--- the rules of a kind of core over a text
-abbrev pub rules : (List ℕ → List ℕ → Request) → (List ℕ → List ℕ → ℕ → List ℕ) → List ℕ → Rules
-rules next after text = record { next = next text; after = after text }
 
 -- what a turn answers, and the world after it
 pub record Answered : Type 0 where
@@ -153,7 +149,7 @@ turned K j w trail m =
     (answered (refusal K j w ∷ []) w)
 
 -- there are numbers within their bounds, and given them the turn's outcome is the one defined
-pub record Turned (meets : Numbers → Numbers → Type 0) (K : Rules) (j : ℕ) (w : World) (o : Answered) : Type 0 where
+pub record Turned (meets : Meets) (K : Rules) (j : ℕ) (w : World) (o : Answered) : Type 0 where
   pub trail : List Numbers
   pub last : Numbers
   pub within : refusal K j w ≡ 0 → Within meets w.tape.book.sizes.cores w.tape.history j (touched (asks K j w)) w.tape.numbers trail last

@@ -1,9 +1,10 @@
 // The recorder: begin, and turns.
 ghost use Rattle.std.specs.Prelude.{◌≡◌, ◌+◌, ◌<◌, true, [], length};
+ghost use Rattle.cores.specs.Memory.{rules};
 ghost use Rattle.records.specs.Settings.{fits, no_sizes, SurplusKept};
 ghost use Rattle.recorder.specs.Decided.{OneOutcome};
 ghost use Rattle.recorder.specs.Refusals.{book, log_in, barred};
-ghost use Rattle.recorder.specs.Turns.{headed, headed_from, fresh_tape, tape, Entered, rules, scene, answered, said, begun, begun_said, Turned, kept, unmoved};
+ghost use Rattle.recorder.specs.Turns.{headed, headed_from, fresh_tape, tape, Entered, scene, answered, said, begun, begun_said, Turned, kept, unmoved};
 
 use crate::arcs::{CoreLog, Tail};
 use crate::ledger::{Ledger, Log};

@@ -7,14 +7,16 @@ use Rattle.records.specs.Settings.{settled}
 use Rattle.records.specs.declared.settings.Sizes.{Sizes}
 use Rattle.recorder.specs.Refusals.{log_in}
 use Rattle.recorder.specs.Turns.{World, world, Answered, answered, Turned, asks, ready, refusal, entered, new_arcs, done_said, fresh_tape, headed_from}
-use Rattle.runs.specs.Recording.{Arc, arc, Meets}
+use Rattle.reducers.specs.Numbers.{Meets}
+use Rattle.runs.specs.Recording.{Arc, arc}
 use Rattle.runs.specs.Runs.{Instr, next}
 use Rattle.traces.proofs.Recordings.{traces_are_faithful}
 use Rattle.traces.proofs.Steps.{refused_turn, accepted_turn}
 use Rattle.traces.specs.Recording as traced
 use Rattle.traces.specs.Recording.{Faithful}
-use Rattle.traces.specs.Trace.{refused}
-use Rattle.recordings.specs.ByTheRules.{next_event, plainly_said, ByTheRules, TurnGoes, TurnsGoByTheRules, Account, trace_with, calls_with, RowsHaveAccounts}
+use Rattle.traces.specs.Trace.{Trace, turns, took, refused}
+use Rattle.traces.specs.Trace.{Event as Call}
+use Rattle.recordings.specs.ByTheRules.{next_event, plainly_said, ByTheRules, TurnGoes, TurnsGoByTheRules, InARow}
 use Rattle.recordings.specs.ByTheRules as rules
 use Rattle.recordings.specs.Refused.{turn_refusal}
 use Rattle.recordings.specs.Sessions.{Session, Records}
@@ -23,7 +25,26 @@ use Rattle.recordings.proofs.Recording.{goes_logging, goes_tracking, count_said}
 use Rattle.recordings.proofs.Refused.{refusals_are_plain}
 use Rattle.recordings.proofs.Sessions.{begins_tracking, logs_step, arcs_to_next}
 use Rattle.recordings.proofs.Tracking as now
-use Rattle.recordings.proofs.Turning.{passed}
+use Rattle.recorder.proofs.Passing.{passed}
+
+-- the account of turns in a row: they went by the rules, and the recorder tracks the plain memory with the arcs that they logged
+pub record Account (meets : Meets) (K : Rules) (z : Sizes) (cells : List ℕ) (states : List (List ℕ)) (js : List ℕ) (says : List (List ℕ)) (v : World) (r : traced.Recording) : Type 0 where
+  pub turns : List ℕ
+  pub arcs : List Arc
+  pub rules : ByTheRules meets K z (start cells states) js says turns v.tape.numbers arcs
+  pub tracks : Tracks meets K z (start cells states) turns arcs v
+  pub logs : (k : ℕ) → r.arcs k ≡ logs_of k arcs
+  pub settles : ready v ≡ true
+
+-- the calls of turns in a row, on top of earlier ones
+abbrev pub calls_with : {meets : Meets} {K : Rules} {w v : World} {js : List ℕ} {says : List (List ℕ)} → InARow meets K w js says v → List Call → List Call
+calls_with rules.none es = es
+calls_with (rules.then c j o f _ _ _) es = took j o.says ∷ calls_with c es
+
+abbrev pub trace_with : {meets : Meets} {K : Rules} {w₀ w v : World} {es : List Call} {js : List ℕ} {says : List (List ℕ)} →
+    Trace meets K w₀ es w → (c : InARow meets K w js says v) → Trace meets K w₀ (calls_with c es) v
+trace_with t rules.none = t
+trace_with t (rules.then c j o f _ _ _) = turns (trace_with t c) j o f
 
 -- as many arcs more as were logged
 many_logged : (y : Instr) (more : List LogArc) (L : List Arc) → length (logged y more L) ≡ length more + length L
@@ -156,7 +177,13 @@ begin_account : (meets : Meets) (K : Rules) (z : Sizes) (w : World) →
 begin_account meets K z w room =
     record { turns = []; arcs = []; rules = rules.none; tracks = begins_tracking meets K z w; logs = λ k. refl; settles = room }
 
-pub rows_have_accounts : (meets : Meets) → RowsHaveAccounts meets
+-- from the begin on, turns in a row have an account
+pub rows_have_accounts :
+    (meets : Meets)
+    (K : Rules) (z : Sizes) (w₀ v : World) (r₀ : traced.Recording) (es : List Call) (js : List ℕ) (says : List (List ℕ)) → Faithful w₀ r₀ →
+    let b : World = world (fresh_tape z (headed_from z z.cores 0 w₀.tape.store)) w₀.cells w₀.states in
+    ready b ≡ true → (t : Trace meets K w₀ es b) → traced.recording_after t r₀ ≡ traced.opened z w₀ → (c : InARow meets K b js says v) →
+    Account meets K z (take z.cells w₀.cells) (take z.cores w₀.states) js says v (traced.recording_after (trace_with t c) r₀)
 rows_have_accounts meets K z w₀ v r₀ es js says f₀ room t e rules.none =
     subst (Account meets K z (take z.cells w₀.cells) (take z.cores w₀.states) [] [] v) (sym e) (begin_account meets K z w₀ room)
 rows_have_accounts meets K z w₀ v r₀ es js says f₀ room t e (rules.then {js = ks} {says = past} {v = x} c j o T cells states store) =

@@ -3,8 +3,8 @@ use Rattle.std.proofs.Common.{◌≡◌, ℕ, true, eqb, List, ◌∷◌, sym, r
 use Rattle.std.proofs.lemmas.Bool.{cond-true, cond-false, eq-eqb, ne_eqb}
 use Rattle.cores.specs.Memory.{Rules, Memory, plain}
 use Rattle.records.specs.declared.settings.Sizes.{Sizes}
-use Rattle.reducers.specs.Numbers.{Numbers}
-use Rattle.runs.specs.Recording.{Arc, Meets, Recording, begin, turn}
+use Rattle.reducers.specs.Numbers.{Numbers, Meets}
+use Rattle.runs.specs.Recording.{Arc, Recording, begin, turn}
 use Rattle.runs.specs.Reducers.{Reducer}
 use Rattle.recordings.specs.ByTheRules.{ByTheRules}
 use Rattle.recordings.specs.ByTheRules as rules
@@ -13,7 +13,7 @@ use Rattle.recordings.specs.Refused.{turn_refusal}
 use Rattle.recordings.specs.Tracks.{run_of, logs_of}
 
 module _ (meets : Meets) (K : Rules) (z : Sizes) (m : Memory) where
-  pub rules_record : (js : List ℕ) (says : List (List ℕ)) (u : List ℕ) (N : Numbers) (L : List Arc) → ByTheRules meets K z m js says u N L → Recording meets (run_of K m u) N L
+  rules_record : (js : List ℕ) (says : List (List ℕ)) (u : List ℕ) (N : Numbers) (L : List Arc) → ByTheRules meets K z m js says u N L → Recording meets (run_of K m u) N L
   rules_record js says u N L rules.none = begin
   rules_record js says u N L (rules.refuses {js = ks} {says = past} b j q) = rules_record ks past u N L b
   rules_record js says u N L (rules.accepts {js = ks} {says = past} {u = t} {N = M} {L = A} b j q l) = turn (rules_record ks past t M A b) l.judged l.noted

@@ -9,8 +9,8 @@ use Rattle.recorder.specs.Judged as recorder
 use Rattle.recorder.specs.Judged.{known?, arcs_to, last_of, none, then}
 use Rattle.reducers.specs.declared.interface.AccessKind.{AccessKind}
 use Rattle.reducers.specs.declared.interface.AccessKind.TheVariants.{Read, Write}
-use Rattle.reducers.specs.Numbers.{Numbers, core?, cell?, taken}
-use Rattle.runs.specs.Recording.{Arc, arc, place_of, Meets, Judged, none_left, answers_yes, answers_no}
+use Rattle.reducers.specs.Numbers.{Numbers, Meets, core?, cell?, taken}
+use Rattle.runs.specs.Recording.{Arc, arc, place_of, Judged, none_left, answers_yes, answers_no}
 use Rattle.runs.specs.Runs.{Event, Instr, ev}
 use Rattle.recordings.specs.Tracks.{logged}
 

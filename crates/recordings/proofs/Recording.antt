@@ -24,19 +24,19 @@ use Rattle.recorder.specs.Turns as recorder
 use Rattle.recorder.specs.Turns.{World, asks, Within, entered, new_arcs, remembered_as}
 use Rattle.reducers.specs.declared.interface.AccessKind.{AccessKind}
 use Rattle.reducers.specs.declared.interface.AccessKind.TheVariants.{Read as reads, Write as writes}
-use Rattle.reducers.specs.Numbers.{Numbers, noted, core?, cell?}
+use Rattle.reducers.specs.Numbers.{Numbers, Meets, noted, core?, cell?}
 use Rattle.runs.proofs.CandidatesCover.{cases}
 use Rattle.runs.proofs.NewestFirst.{newest_first, given_met}
 use Rattle.runs.specs.Candidates as run_candidates
 use Rattle.runs.specs.Candidates.{candidates}
 use Rattle.runs.specs.PlainRun.{access}
-use Rattle.runs.specs.Recording.{In, Arc, Meets, Judged, none_left, Noted, turn}
+use Rattle.runs.specs.Recording.{In, Arc, Judged, none_left, Noted, turn}
 use Rattle.runs.specs.Runs.{Event, Run, ev, local, read, write, done, next}
 use Rattle.recordings.specs.ByTheRules.{Logs, next_event}
 use Rattle.recordings.specs.Tracks.{run_of, logged, Tracks}
 use Rattle.recordings.proofs.Judging.{InRange, judged_is, when_true}
 use Rattle.recordings.proofs.Tracking as now
-use Rattle.recordings.proofs.Turning.{Passed}
+use Rattle.recorder.proofs.Passing.{Passed}
 
 -- a local instruction has no candidates
 no_candidates : (r : Run) (j : ℕ) → [] ≡ candidates r (ev j local)

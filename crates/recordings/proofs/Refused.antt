@@ -10,7 +10,7 @@ use Rattle.records.specs.Settings.{heading_of}
 use Rattle.recorder.specs.Refusals.{Book, log_in, halts, touched, full, barred}
 use Rattle.recorder.specs.Turns.{World, asks, ready, refusal}
 use Rattle.recorder.specs.declared.rules.Touch.{Touch}
-use Rattle.runs.specs.Recording.{Meets}
+use Rattle.reducers.specs.Numbers.{Meets}
 use Rattle.traces.specs.Recording.{Recording, Faithful}
 use Rattle.recordings.specs.Refused.{no_room, request_refusal, turn_refusal, RefusalsArePlain}
 use Rattle.recordings.specs.Sessions.{Session, Records}

@@ -1,5 +1,5 @@
 -- After any calls a recorder has recorded the run of the turns accepted since the last begin.
-use Rattle.std.proofs.Common.{◌≡◌, ℕ, zero, suc, true, cond, not, eqb, List, [], ◌∷◌, ◌++◌, length, get_or, take, set, replicate, sym, refl, ap, ◌∙◌, subst, inl, inr, arith}
+use Rattle.std.proofs.Common.{◌≡◌, ℕ, true, cond, not, eqb, List, [], ◌∷◌, ◌++◌, length, get_or, take, set, sym, refl, ap, ◌∙◌, subst, inl, inr, arith}
 use Rattle.std.proofs.lemmas.Bool.{cases_Bool, cases_eq, cond-true, cond-false, eq-eqb, ne_eqb}
 use Rattle.access_laws.proofs.Recalling.{nothing_is_recalled_at_first}
 use Rattle.access_laws.specs.Recalls.{Recalls}
@@ -11,10 +11,10 @@ use Rattle.recorder.specs.Refusals.{Book, touched}
 use Rattle.recorder.specs.Sound.{no_log}
 use Rattle.recorder.specs.Turns as recorder
 use Rattle.recorder.specs.Turns.{World, world, asks, Answered, Begun, begun, refusal, new_arcs, entered, Turned}
-use Rattle.recorder.specs.declared.ledger.Log.{Log}
-use Rattle.reducers.specs.Numbers.{Numbers}
+use Rattle.reducers.proofs.RowLists.{each_replicate}
+use Rattle.reducers.specs.Numbers.{Numbers, Meets}
 use Rattle.runs.specs.PlainRun.{access}
-use Rattle.runs.specs.Recording.{Arc, Meets, Recording, begin}
+use Rattle.runs.specs.Recording.{Arc, Recording, begin}
 use Rattle.runs.specs.Runs.{Instr, ev, next}
 use Rattle.traces.proofs.Recordings.{fresh, begun_done, begun_refused}
 use Rattle.traces.proofs.Steps.{refused_turn, accepted_turn}
@@ -25,13 +25,8 @@ use Rattle.recordings.specs.Tracks.{run_of, logged, Tracks, logs_of}
 use Rattle.recordings.proofs.Appending.{To, arcs_target, own_logged, other_logged}
 use Rattle.recordings.proofs.Recording.{goes_tracking}
 use Rattle.recordings.proofs.Tracking as now
-use Rattle.recordings.proofs.Turning.{Passed, passed}
+use Rattle.recorder.proofs.Passing.{Passed, passed}
 use Rattle.records.specs.Settings.{settled, no_sizes}
-
-no_instruction : (n k : ℕ) (l : Log) → l.instructions ≡ 0 → (get_or (replicate n l) k no_log).instructions ≡ 0
-no_instruction zero k l q = refl
-no_instruction (suc n) zero l q = q
-no_instruction (suc n) (suc k) l q = no_instruction n k l q
 
 -- begin tracks a run of no turns
 pub begins_tracking : (meets : Meets) (K : Rules) (z : Sizes) (w : World) →
@@ -42,7 +37,7 @@ begins_tracking meets K z w = record {
   accepted = tt;
   cells = refl;
   states = refl;
-  counts = λ k h. no_instruction 4 k _ refl ∙ sym (all_alike (length (take z.cores w.states)) k 0);
+  counts = λ k h. each_replicate (λ l. l.instructions ≡ 0) (record { instructions = 0; arcs = 0; end = 6 }) no_log refl refl 4 k ∙ sym (all_alike (length (take z.cores w.states)) k 0);
   position = refl;
   recording = begin;
   recalls = nothing_is_recalled_at_first;

@@ -4,9 +4,10 @@ use Rattle.std.proofs.lemmas.List.{drop-set-lt}
 use Rattle.std.proofs.lemmas.Bool.{cases_eq}
 use Rattle.cores.proofs.Surplus.{stored_surplus}
 use Rattle.cores.specs.Memory.{brought}
+use Rattle.recorder.proofs.Passing.{passed}
 use Rattle.recorder.specs.Turns.{asks, refusal}
-use Rattle.runs.specs.Recording.{Meets}
-use Rattle.traces.proofs.Steps.{passed, refused_turn, accepted_turn}
+use Rattle.reducers.specs.Numbers.{Meets}
+use Rattle.traces.proofs.Steps.{refused_turn, accepted_turn}
 use Rattle.recordings.specs.Surplus.{TurnsKeepTheSurplus}
 
 pub turns_keep_the_surplus : (meets : Meets) → TurnsKeepTheSurplus meets

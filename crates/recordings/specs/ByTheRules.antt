@@ -1,19 +1,17 @@
 -- Turns in a row, by the rules: which are refused and with which number, what the others answer, and which arcs they log.
-use Rattle.std.specs.Prelude.{◌≡◌, ℕ, ◌-◌, Bool, true, ◌≢◌, List, [], ◌∷◌, length, take}
+use Rattle.std.specs.Prelude.{◌≡◌, ℕ, ◌-◌, Bool, true, ◌≢◌, List, [], ◌∷◌, length}
 use Rattle.cores.specs.Memory.{Rules, Memory, outcome, plain, start}
 use Rattle.records.specs.declared.settings.Sizes.{Sizes}
-use Rattle.recorder.specs.Turns.{World, world, Answered, answered, Turned, done_said, ready, fresh_tape, headed_from}
-use Rattle.reducers.specs.Numbers.{Numbers, zeros}
+use Rattle.recorder.specs.Turns.{World, Answered, answered, Turned, done_said, ready}
+use Rattle.reducers.specs.Numbers.{Numbers, Meets, zeros}
 use Rattle.runs.specs.Candidates.{candidates}
 use Rattle.runs.specs.PlainRun.{access}
-use Rattle.runs.specs.Recording.{Arc, Meets, Judged, Noted}
+use Rattle.runs.specs.Recording.{Arc, Judged, Noted}
 use Rattle.runs.specs.Runs.{Event, Run, ev, next}
-use Rattle.traces.specs.Recording.{Recording, Faithful, opened, recording_after}
-use Rattle.traces.specs.Trace.{Trace, turns, took}
-use Rattle.traces.specs.Trace.{Event as Call}
+use Rattle.traces.specs.Recording.{Recording, Faithful}
 use Rattle.recordings.specs.Refused.{turn_refusal}
 use Rattle.recordings.specs.Sessions.{Session, Records}
-use Rattle.recordings.specs.Tracks.{run_of, Tracks, logs_of}
+use Rattle.recordings.specs.Tracks.{run_of, logs_of}
 
 -- what core j does next, after the turns u, as an event of their run
 abbrev pub next_event : Rules → Memory → List ℕ → ℕ → Event
@@ -59,30 +57,3 @@ abbrev pub TurnsGoByTheRules : Meets → Type 0
 TurnsGoByTheRules meets =
     (K : Rules) (w : World) (r : Recording) (s : Session) (j : ℕ) (o : Answered) → Faithful w r → (rec : Records meets K w r s) → Turned meets K j w o →
     TurnGoes meets K w.tape.book.sizes (ready w) (start s.cells s.states) s.turns w.tape.numbers rec.arcs w j o
-
--- the account of turns in a row: they went by the rules, and the recorder tracks the plain memory with the arcs that they logged
-pub record Account (meets : Meets) (K : Rules) (z : Sizes) (cells : List ℕ) (states : List (List ℕ)) (js : List ℕ) (says : List (List ℕ)) (v : World) (r : Recording) : Type 0 where
-  pub turns : List ℕ
-  pub arcs : List Arc
-  pub rules : ByTheRules meets K z (start cells states) js says turns v.tape.numbers arcs
-  pub tracks : Tracks meets K z (start cells states) turns arcs v
-  pub logs : (k : ℕ) → r.arcs k ≡ logs_of k arcs
-  pub settles : ready v ≡ true
-
--- the calls of turns in a row, on top of earlier ones
-abbrev pub calls_with : {meets : Meets} {K : Rules} {w v : World} {js : List ℕ} {says : List (List ℕ)} → InARow meets K w js says v → List Call → List Call
-calls_with none es = es
-calls_with (then c j o f _ _ _) es = took j o.says ∷ calls_with c es
-
-abbrev pub trace_with : {meets : Meets} {K : Rules} {w₀ w v : World} {es : List Call} {js : List ℕ} {says : List (List ℕ)} →
-    Trace meets K w₀ es w → (c : InARow meets K w js says v) → Trace meets K w₀ (calls_with c es) v
-trace_with t none = t
-trace_with t (then c j o f _ _ _) = turns (trace_with t c) j o f
-
--- from the begin on, turns in a row have an account
-abbrev pub RowsHaveAccounts : Meets → Type 0
-RowsHaveAccounts meets =
-    (K : Rules) (z : Sizes) (w₀ v : World) (r₀ : Recording) (es : List Call) (js : List ℕ) (says : List (List ℕ)) → Faithful w₀ r₀ →
-    let b : World = world (fresh_tape z (headed_from z z.cores 0 w₀.tape.store)) w₀.cells w₀.states in
-    ready b ≡ true → (t : Trace meets K w₀ es b) → recording_after t r₀ ≡ opened z w₀ → (c : InARow meets K b js says v) →
-    Account meets K z (take z.cells w₀.cells) (take z.cores w₀.states) js says v (recording_after (trace_with t c) r₀)

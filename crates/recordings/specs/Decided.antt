@@ -2,8 +2,8 @@
 use Rattle.std.specs.Prelude.{◌≡◌, ℕ, true, cond, List, [], ◌∷◌, ◌==◌}
 use Rattle.cores.specs.Memory.{Rules, Memory, plain}
 use Rattle.records.specs.declared.settings.Sizes.{Sizes}
-use Rattle.reducers.specs.Numbers.{Numbers}
-use Rattle.runs.specs.Recording.{Arc, Meets, Recording}
+use Rattle.reducers.specs.Numbers.{Numbers, Meets}
+use Rattle.runs.specs.Recording.{Arc, Recording}
 use Rattle.runs.specs.Reducers.{Reducer, recorded}
 use Rattle.runs.specs.Runs.{Run}
 use Rattle.recordings.specs.ByTheRules.{ByTheRules}

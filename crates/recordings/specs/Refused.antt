@@ -10,7 +10,7 @@ use Rattle.records.specs.declared.settings.Sizes.{Sizes}
 use Rattle.recorder.specs.Refusals.{halts, touched}
 use Rattle.recorder.specs.Turns.{World, ready, refusal}
 use Rattle.recorder.specs.declared.rules.Touch.{Touch}
-use Rattle.runs.specs.Recording.{Meets}
+use Rattle.reducers.specs.Numbers.{Meets}
 use Rattle.traces.specs.Recording.{Recording, Faithful}
 use Rattle.recordings.specs.Sessions.{Session, Records}
 use Rattle.recordings.specs.Tracks.{logs_of}

@@ -4,10 +4,10 @@ use Rattle.accesses.specs.Histories.{untouched}
 use Rattle.cores.specs.Memory.{Rules, start}
 use Rattle.records.specs.Settings.{no_sizes}
 use Rattle.records.specs.declared.settings.Sizes.{Sizes}
-use Rattle.reducers.specs.Numbers.{zeros}
+use Rattle.reducers.specs.Numbers.{Meets, zeros}
 use Rattle.recorder.specs.Refusals.{started}
 use Rattle.recorder.specs.Turns.{World}
-use Rattle.runs.specs.Recording.{Arc, Meets}
+use Rattle.runs.specs.Recording.{Arc}
 use Rattle.traces.specs.Recording as traced
 use Rattle.traces.specs.Trace.{Event, Trace, none, begins, turns, refused}
 use Rattle.recordings.specs.Tracks.{Tracks, logs_of}

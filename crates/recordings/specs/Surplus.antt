@@ -2,7 +2,7 @@
 use Rattle.std.specs.Prelude.{◌≡◌, ℕ, drop}
 use Rattle.cores.specs.Memory.{Rules}
 use Rattle.recorder.specs.Turns.{World, Answered, Turned}
-use Rattle.runs.specs.Recording.{Meets}
+use Rattle.reducers.specs.Numbers.{Meets}
 
 abbrev pub TurnsKeepTheSurplus : Meets → Type 0
 TurnsKeepTheSurplus meets =

@@ -6,8 +6,9 @@ use Rattle.records.specs.declared.settings.Sizes.{Sizes}
 use Rattle.recorder.specs.Refusals.{log_in}
 use Rattle.recorder.specs.Turns.{World}
 use Rattle.access_laws.specs.Recalls.{Recalls}
+use Rattle.reducers.specs.Numbers.{Meets}
 use Rattle.runs.specs.PlainRun.{run}
-use Rattle.runs.specs.Recording.{Arc, arc, log, Meets, Recording}
+use Rattle.runs.specs.Recording.{Arc, arc, log, Recording}
 use Rattle.runs.specs.Runs.{Instr, Run, turns}
 
 -- the run of the turns, where two accesses conflict at their cell

@@ -21,7 +21,7 @@ rest_is log at from f =
     ]
 
 -- before the end, a record is read and judged
-pub seen_open : (g : Heading) (log : List ℕ) (at : ℕ) (s : State) → ((n : ℕ) → s ≡ After n → ⊥) →
+seen_open : (g : Heading) (log : List ℕ) (at : ℕ) (s : State) → ((n : ℕ) → s ≡ After n → ⊥) →
     judged g s at (entry_at g.core at (drop at log)) ≡ seen g log at s
 seen_open g log at Before h = refl
 seen_open g log at (Among last latest m) h = refl
@@ -103,7 +103,7 @@ sourced_both counts g at (head _ _ _) e u t q = cc
 sourced_both counts g at (end _ _) e u t q = cc
 sourced_both counts g at (arc a) e u t q = cond_some (ltb (get_or counts a.source 0) a.count) (broken 3 g.core at 6) _ _ q
 
-pub held_seen : (counts : List ℕ) (g : Heading) (at : ℕ) (e : Entry) (t : State) (x : Sight) → held_at counts g at x ≡ Ok (Some (e, t)) → x ≡ Ok (Some (e, t))
+held_seen : (counts : List ℕ) (g : Heading) (at : ℕ) (e : Entry) (t : State) (x : Sight) → held_at counts g at x ≡ Ok (Some (e, t)) → x ≡ Ok (Some (e, t))
 held_seen counts g at e t (Ok (Some (y, u))) q = ap (λ v. Ok (Some v)) (sourced_both counts g at y e u t q)
 held_seen counts g at e t (Ok None) q = let z : ◌≡◌ {A = ℕ} 0 1 = cc in absurd (omega arith)
 held_seen counts g at e t (Err f) q = let z : ◌≡◌ {A = ℕ} 0 1 = cc in absurd (omega arith)

@@ -1,4 +1,4 @@
--- The numbers of the exact reducer after each call.
+-- The exact reducer's rows after a take and a note have the numbers that are defined.
 use Rattle.std.proofs.Common.{◌≡◌, ℕ, ◌<◌, ◌≤◌, max, Bool, true, cond, ◌&&◌, eqb, List, length, get_or, set, replicate, sym, refl, ap, ◌∙◌, ap₂, arith, length-set}
 use mathlib.Core.Path.{fun_ext}
 use Rattle.std.specs.Array.{AllOfLen}
@@ -13,7 +13,7 @@ use Rattle.reducers.specs.declared.exact.Exact.{Exact}
 use Rattle.reducers.specs.declared.interface.AccessKind.{AccessKind}
 use Rattle.reducers.specs.declared.interface.AccessKind.TheVariants.{Read, Write}
 
-pub numbers_same : (n m : Numbers) → ((j : ℕ) → n.known j ≡ m.known j) → ((c : ℕ) → n.written c ≡ m.written c) → ((i c : ℕ) → n.read i c ≡ m.read i c) → n ≡ m
+numbers_same : (n m : Numbers) → ((j : ℕ) → n.known j ≡ m.known j) → ((c : ℕ) → n.written c ≡ m.written c) → ((i c : ℕ) → n.read i c ≡ m.read i c) → n ≡ m
 numbers_same n m p q r = λ i. record { known = λ j. p j i; written = λ c. q c i; read = λ s c. r s c i }
 
 abbrev Zeros : Row → Type 0

@@ -1,3 +1,3 @@
-mod RowLists
+pub mod RowLists
 mod Exacts
 mod CallLaws

@@ -1,6 +1,6 @@
 -- Lists of calls of a reducer since its last reset, and what its numbers come to.
 use Rattle.std.specs.Prelude.{◌≡◌, ℕ, max, cond, ◌&&◌, List, [], ◌∷◌, MatchBool, ◌==◌}
-use Rattle.reducers.specs.Numbers.{Numbers, zeros, ◌⊑◌, core?, cell?, taken, noted}
+use Rattle.reducers.specs.Numbers.{Numbers, Meets, zeros, ◌⊑◌, core?, cell?, taken, noted}
 use Rattle.reducers.specs.Rows.{KnownOnly}
 use Rattle.reducers.specs.declared.interface.AccessKind.{AccessKind}
 
@@ -10,12 +10,12 @@ pub data Call : Type 0 where
   notes : (j c : ℕ) → AccessKind → Call
 
 -- what a call promises of the numbers before and after it
-abbrev pub Does : (Numbers → Numbers → Type 0) → Numbers → Call → Numbers → Type 0
+abbrev pub Does : Meets → Numbers → Call → Numbers → Type 0
 Does meets n (takes i a c w j) m = MatchBool (core? i && (core? j && cell? c)) (meets m (taken n i a c w j)) (m ≡ n)
 Does meets n (notes j c w) m = MatchBool (core? j && cell? c) (meets m (noted n j c w)) (m ≡ n)
 
 -- the numbers after these calls, the newest first, of a reducer that meets its bounds so
-pub data Ran (meets : Numbers → Numbers → Type 0) : List Call → Numbers → Type 0 where
+pub data Ran (meets : Meets) : List Call → Numbers → Type 0 where
   fresh : Ran meets [] zeros
   next : {calls : List Call} {n m : Numbers} → Ran meets calls n → (call : Call) → Does meets n call m → Ran meets (call ∷ calls) m
 

@@ -13,6 +13,10 @@ pub record Numbers : Type 0 where
 abbrev pub zeros : Numbers
 zeros = record { known = λ _ _. 0; written = λ _ _. 0; read = λ _ _ _. 0 }
 
+-- how a reducer's numbers stand to their bounds: `≡` for the exact reducer, `⊑` for any
+abbrev pub Meets : Type 1
+Meets = Numbers → Numbers → Type 0
+
 infix 4 ◌⊑◌
 -- each number of n is at most that of b
 pub record ◌⊑◌ (n b : Numbers) : Type 0 where

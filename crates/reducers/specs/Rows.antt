@@ -27,7 +27,11 @@ exact_numbers e = record {
 abbrev pub pairwise_numbers : Pairwise → Numbers
 pairwise_numbers p = record { known = row p.known.rows; written = λ _ _. 0; read = λ _ _ _. 0 }
 
--- the same known numbers, and no stamp
+-- the known numbers of a bound, and no stamp
+abbrev pub known_only : Numbers → Numbers
+known_only b = record { known = b.known; written = λ _ _. 0; read = λ _ _ _. 0 }
+
+-- the same, number by number
 pub record KnownOnly (n b : Numbers) : Type 0 where
   pub known_same : (j i : ℕ) → n.known j i ≡ b.known j i
   pub no_written : (c k : ℕ) → n.written c k ≡ 0

@@ -41,5 +41,6 @@ pub trait Reducer {
     fn note(&mut self, j: usize, cell: usize, kind: AccessKind)
         ensures { MatchBool (core? j && cell? cell) (meets (numbers self.new) (noted (numbers self.old) j cell kind)) (self.new ≡ self.old) };
 
+    // What meets the most that it may be is at most that.
     ghost bounded: { (n b : Numbers) → meets n b → n ⊑ b };
 }

@@ -122,7 +122,7 @@ upto_zero : (g : Heading) (arcs : List LogArc) → Lawful g arcs → arcs_upto 0
 upto_zero g [] l = refl
 upto_zero g (a ∷ more) l = cond-false (leb a.target 0) (a ∷ arcs_upto 0 more) (arcs_upto 0 more) (lt-leb a.target 0 l.0.to) ∙ upto_zero g more l.2
 
-pub started_follows : (store : List ℕ) (z : Sizes) (counts : List ℕ) (w : Accepted store z counts) → fits (length store) z ≡ true → Follows store w.arcs (started z counts)
+started_follows : (store : List ℕ) (z : Sizes) (counts : List ℕ) (w : Accepted store z counts) → fits (length store) z ≡ true → Follows store w.arcs (started z counts)
 started_follows store z counts w t = record {
   fits = t;
   holds = w.holds;

@@ -1,44 +1,23 @@
 -- A step that is carried out is a turn of the plain memory, so steps and runs are turns.
 use Rattle.std.proofs.Common.{◌≡◌, ℕ, zero, suc, ◌+◌, ◌≤◌, Bool, true, false, cond, eqb, ltb, leb, List, [], ◌∷◌, length, get_or, take, set, sym, refl, ap, ◌∙◌, subst, arith}
+use Rattle.std.proofs.Math.Seq.{take-set-lt}
 use Rattle.std.proofs.lemmas.List.{get_or-take, length-take-le}
-use Rattle.std.proofs.lemmas.Bool.{eqb-true, leb-true, ltb-true, lt-ltb, and_from, and_parts}
+use Rattle.std.proofs.lemmas.Bool.{eqb-true, leb-true, lt-ltb, and_from, and_parts}
 use Rattle.cores.specs.declared.interface.Request.{Request}
-use Rattle.cores.specs.declared.interface.Request.TheVariants.{Halt, Local, Read, Write, Exchange}
-use Rattle.cores.specs.Acting.{within}
-use Rattle.cores.specs.Memory.{Rules, Memory, able, brought, stored, outcome, effect, turned, accepts}
+use Rattle.cores.proofs.Storing.{take_stored, brought_take}
+use Rattle.cores.specs.Memory.{Rules, rules, Memory, able, brought, stored, outcome, effect, turned, accepts}
 use Rattle.records.specs.declared.settings.Sizes.{Sizes}
 use Rattle.records.specs.Faults.{bad_setting}
 use Rattle.records.specs.Settings.{fits, settled}
 use Rattle.replayer.specs.declared.group.Group.{Group}
 use Rattle.replayer.specs.declared.replay.Replayer.{Replayer}
 use Rattle.replayer.specs.Answers.{done_numbers}
-use Rattle.replayer.specs.Memories.{rules_of, memory_of, Alike, stays, turns, StepsAlike, Played, walked, StepsPlay, RunsPlay}
+use Rattle.replayer.specs.Memories.{memory_of, Alike, stays, turns, StepsAlike, Played, walked, StepsPlay, RunsPlay}
 use Rattle.replayer.specs.Runs.{left, counted, Session, session, one, circled, around, ended, rounds, ran}
 use Rattle.replayer.specs.Steps.{Outcome, acted, stepped}
 use Rattle.replayer.proofs.Runs.{stepped_moves}
 use Rattle.replayer.proofs.Steps.{able_inside, settled_cores}
 use Rattle.replayer.proofs.Ways.{Carried, any_step}
-
--- a change within the first n
-take_set_in : {A : Type 0} (n : ℕ) (l : List A) (i : ℕ) (v : A) → take n (set l i v) ≡ set (take n l) i v
-take_set_in zero l i v = refl
-take_set_in (suc n) [] i v = refl
-take_set_in (suc n) (x ∷ l) zero v = refl
-take_set_in (suc n) (x ∷ l) (suc i) v = ap (λ y. x ∷ y) (take_set_in n l i v)
-
-stored_take : (r : Request) (n : ℕ) (cells : List ℕ) → take n (stored r cells) ≡ stored r (take n cells)
-stored_take Halt n cells = refl
-stored_take Local n cells = refl
-stored_take (Read c) n cells = refl
-stored_take (Write c v) n cells = take_set_in n cells c v
-stored_take (Exchange c v) n cells = take_set_in n cells c v
-
-brought_take : (r : Request) (n : ℕ) (cells : List ℕ) → within r n ≡ true → brought r cells ≡ brought r (take n cells)
-brought_take Halt n cells h = refl
-brought_take Local n cells h = refl
-brought_take (Read c) n cells h = sym (get_or-take n cells c 0 (ltb-true c n h))
-brought_take (Write c v) n cells h = refl
-brought_take (Exchange c v) n cells h = sym (get_or-take n cells c 0 (ltb-true c n h))
 
 settled_cells : (z : Sizes) (cores cells bytes : ℕ) → settled z cores cells bytes ≡ true → z.cells ≤ cells
 settled_cells z cores cells bytes t = leb-true z.cells cells (and_parts (leb z.cores cores) _ (and_parts (fits bytes z) _ t).1).1
@@ -49,7 +28,7 @@ module _
     (G : Group) (w : Carried next after text R cells states store j G)
   where
     abbrev K : Rules
-    K = rules_of next after text
+    K = rules next after text
 
     abbrev P : ℕ
     P = R.sizes.cores
@@ -73,7 +52,7 @@ module _
     request_is = ap (next text) state_is
 
     number_is : brought (K.next (get_or (take P states) j [])) (take C cells) ≡ number
-    number_is = ap (λ r. brought r (take C cells)) request_is ∙ sym (brought_take request C cells (able_inside request C w.able))
+    number_is = ap (λ r. brought r (take C cells)) request_is ∙ brought_take request C cells (able_inside request C w.able)
 
     count_is : suc (get_or (take P R.done) j 0) ≡ get_or R.done j 0 + 1
     count_is = omega (arith, get_or-take P R.done j 0 w.clear.known)
@@ -81,7 +60,7 @@ module _
     state_after : K.after (get_or (take P states) j []) (brought (K.next (get_or (take P states) j [])) (take C cells)) ≡ after text (get_or states j []) number
     state_after = λ i. after text (state_is i) (number_is i)
 
-    pub carried_turns : Alike K m j (acted next after text R cells states j G.place request)
+    carried_turns : Alike K m j (acted next after text R cells states j G.place request)
     unfolding outcome effect
     carried_turns =
         turns
@@ -90,27 +69,27 @@ module _
         (ap (ltb j) (length-take-le P states (settled_cores R.sizes (length states) (length cells) (length store) w.clear.ready)) ∙ lt-ltb j P w.clear.known)
         ((λ i. able (request_is i) (length-take-le C cells (settled_cells R.sizes (length states) (length cells) (length store) w.clear.ready) i)) ∙ w.able))
         (λ i. record {
-          cells = (stored_take request C cells ∙ ap (λ r. stored r (take C cells)) (sym request_is)) i;
-          states = (take_set_in P states j (after text (get_or states j []) number) ∙ ap (set (take P states) j) (sym state_after)) i;
-          counts = (take_set_in P R.done j (get_or R.done j 0 + 1) ∙ ap (set (take P R.done) j) (sym count_is)) i;
+          cells = (take_stored request C cells (able_inside request C w.able) ∙ ap (λ r. stored r (take C cells)) (sym request_is)) i;
+          states = (take-set-lt P states j (after text (get_or states j []) number) w.clear.known ∙ ap (set (take P states) j) (sym state_after)) i;
+          counts = (take-set-lt P R.done j (get_or R.done j 0 + 1) w.clear.known ∙ ap (set (take P R.done) j) (sym count_is)) i;
         })
 
 pub steps_alike : StepsAlike
 steps_alike next after text R cells states store j four =
-    any_step next after text R cells states store j (Alike (rules_of next after text) (memory_of R cells states) j)
+    any_step next after text R cells states store j (Alike (rules next after text) (memory_of R cells states) j)
     (λ says q. stays q refl)
     (λ G w. carried_turns next after text R cells states store j four G w)
 
 renumber : {K : Rules} {m : Memory} {R : Replayer} {cells : List ℕ} {states : List (List ℕ)} (a b : ℕ) → Played K m a R cells states → a ≡ b → Played K m b R cells states
 renumber a b p e = record { turns = p.turns; number = p.number ∙ e; accepted = p.accepted; memory = p.memory; four = p.four }
 
-pub played_none : (K : Rules) (R : Replayer) (cells : List ℕ) (states : List (List ℕ)) → length R.done ≡ 4 → Played K (memory_of R cells states) 0 R cells states
+played_none : (K : Rules) (R : Replayer) (cells : List ℕ) (states : List (List ℕ)) → length R.done ≡ 4 → Played K (memory_of R cells states) 0 R cells states
 played_none K R cells states four = record { turns = []; number = refl; accepted = tt; memory = refl; four = four }
 
 module _ (next : List ℕ → List ℕ → Request) (after : List ℕ → List ℕ → ℕ → List ℕ) (text store : List ℕ) (m : Memory) where
   -- b turns were played before those that the session counts
   abbrev Plays : ℕ → Session → Type 0
-  Plays b s = Played (rules_of next after text) m (b + s.carried) s.replayer s.cells s.states
+  Plays b s = Played (rules next after text) m (b + s.carried) s.replayer s.cells s.states
 
   one_plays : (b : ℕ) (s : Session) → Plays b s → (j : ℕ) → Plays b (one next after text store s j)
   one_plays b s p j = go (steps_alike next after text s.replayer s.cells s.states store j p.four)
@@ -121,13 +100,13 @@ module _ (next : List ℕ → List ℕ → Request) (after : List ℕ → List �
       four : length o.replayer.done ≡ 4
       four = (stepped_moves next after text store s.replayer s.cells s.states j p.four).four
 
-      go : Alike (rules_of next after text) (memory_of s.replayer s.cells s.states) j o → Plays b (one next after text store s j)
+      go : Alike (rules next after text) (memory_of s.replayer s.cells s.states) j o → Plays b (one next after text store s j)
       go (stays n q) = record { turns = p.turns; number = omega (arith, p.number, n); accepted = p.accepted; memory = q ∙ p.memory; four = four }
       go (turns says a q) = record {
         turns = j ∷ p.turns;
         number = omega (arith, p.number, ap counted says);
-        accepted = (subst (λ x. accepts (rules_of next after text) x j ≡ true) p.memory a, p.accepted);
-        memory = q ∙ ap (λ x. turned (rules_of next after text) x j) p.memory;
+        accepted = (subst (λ x. accepts (rules next after text) x j ≡ true) p.memory a, p.accepted);
+        memory = q ∙ ap (λ x. turned (rules next after text) x j) p.memory;
         four = four;
       }
 
@@ -142,7 +121,7 @@ module _ (next : List ℕ → List ℕ → Request) (after : List ℕ → List �
 
   -- a run so far, and what it ends with
   abbrev Ends : Outcome → Type 0
-  Ends o = Played (rules_of next after text) m (get_or o.says 1 0) o.replayer o.cells o.states
+  Ends o = Played (rules next after text) m (get_or o.says 1 0) o.replayer o.cells o.states
 
   rounds_play : (f : ℕ) (s : Session) → Plays 0 s → Ends (rounds next after text store f s)
   unfolding rounds
@@ -167,12 +146,12 @@ module _ (next : List ℕ → List ℕ → Request) (after : List ℕ → List �
 
 pub steps_play : StepsPlay
 steps_play next after text store R cells states steps four =
-    renumber _ _ (walk_plays next after text store (memory_of R cells states) (session 0 R cells states) (played_none (rules_of next after text) R cells states four) steps) (omega arith)
+    renumber _ _ (walk_plays next after text store (memory_of R cells states) (session 0 R cells states) (played_none (rules next after text) R cells states four) steps) (omega arith)
 
 pub runs_play : RunsPlay
 unfolding ran
 runs_play next after text store R cells states four = go (settled R.sizes (length states) (length cells) (length store))
   where
     go : (b : Bool) → Ends next after text store (memory_of R cells states) (cond b (rounds next after text store (suc (left R)) (session 0 R cells states)) (record { says = bad_setting; replayer = R; cells = cells; states = states }))
-    go true = rounds_play next after text store (memory_of R cells states) (suc (left R)) (session 0 R cells states) (played_none (rules_of next after text) R cells states four)
-    go false = played_none (rules_of next after text) R cells states four
+    go true = rounds_play next after text store (memory_of R cells states) (suc (left R)) (session 0 R cells states) (played_none (rules next after text) R cells states four)
+    go false = played_none (rules next after text) R cells states four

@@ -74,7 +74,7 @@ pub record Moves (R Q : Replayer) (n : ℕ) : Type 0 where
   pub sizes : Q.sizes ≡ R.sizes
   pub four : length Q.done ≡ 4
 
-pub moves_none : (R : Replayer) (n : ℕ) → length R.done ≡ 4 → n ≡ 0 → Moves R R n
+moves_none : (R : Replayer) (n : ℕ) → length R.done ≡ 4 → n ≡ 0 → Moves R R n
 moves_none R n four e = record { fewer = omega arith; sizes = refl; four = four }
 
 pub moves_on : (R S Q : Replayer) (n k m : ℕ) → Moves R S n → Moves S Q k → m ≡ n + k → Moves R Q m

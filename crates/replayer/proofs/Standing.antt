@@ -43,7 +43,7 @@ none_to t [] h = refl
 none_to t (a ∷ more) h = to_other t a more (λ e. omega (arith, h.0)) ∙ none_to t more h.1
 
 -- one instruction more
-pub upto_more : (g : Heading) (d : ℕ) (arcs : List LogArc) → Lawful g arcs → arcs_upto (d + 1) arcs ≡ arcs_upto d arcs ++ arcs_to (d + 1) arcs
+upto_more : (g : Heading) (d : ℕ) (arcs : List LogArc) → Lawful g arcs → arcs_upto (d + 1) arcs ≡ arcs_upto d arcs ++ arcs_to (d + 1) arcs
 upto_more g d [] l = refl
 upto_more g d (a ∷ more) l =
     let again = upto_more g d more l.2 in
@@ -61,7 +61,7 @@ upto_more g d (a ∷ more) l =
           ])
     ]
 
-pub past_append : (p : SavedPlace) (xs ys : List LogArc) → past_all p (xs ++ ys) ≡ past_all (past_all p xs) ys
+past_append : (p : SavedPlace) (xs ys : List LogArc) → past_all p (xs ++ ys) ≡ past_all (past_all p xs) ys
 past_append p [] ys = refl
 past_append p (x ∷ xs) ys = past_append (past p x) xs ys
 
@@ -83,13 +83,13 @@ module _ (counts : List ℕ) (g : Heading) (log : List ℕ) (n k : ℕ) where
         (seen_both g log p.offset (resumed p) (arc a) S.seen.0 S.seen.1).1
 
     -- the next arc is read
-    pub standing_sees : arc_seen counts (at_place g log p) ≡ Ok (Some (a, past p a))
+    standing_sees : arc_seen counts (at_place g log p) ≡ Ok (Some (a, past p a))
     standing_sees =
         ap (λ x. arc_of p.offset (held_at counts g p.offset x)) (S.seen.1 ∙ ap (λ t. Ok (Some (arc a, t))) behind_is)
         ∙ ap (arc_of p.offset) (cond-false (ltb (get_or counts a.source 0) a.count) (Err (broken 3 g.core p.offset 6)) (Ok (Some (arc a, resumed (past p a)))) (le-ltb (get_or counts a.source 0) a.count S.sources.0))
 
     -- and behind it stand the others
-    pub standing_on : Standing (past p a) more
+    standing_on : Standing (past p a) more
     standing_on = record {
       seen = subst (λ t. Path g log n k (record { heading = g; log = log; cursor = (past p a).offset; state = t }) more) behind_is S.seen.2;
       lawful = S.lawful.2;
@@ -97,7 +97,7 @@ module _ (counts : List ℕ) (g : Heading) (log : List ℕ) (n k : ℕ) where
     }
 
   -- behind the last arc stands the end
-  pub standing_ends : (p : SavedPlace) → Standing p [] → arc_seen counts (at_place g log p) ≡ Ok None
+  standing_ends : (p : SavedPlace) → Standing p [] → arc_seen counts (at_place g log p) ≡ Ok None
   standing_ends p S = ap (λ x. arc_of p.offset (held_at counts g p.offset x)) S.seen
 
   abbrev reads : ℕ → ℕ → SavedPlace → Result Grouped Fault

@@ -1,4 +1,4 @@
--- What a step comes to on each of its ways.
+-- On each way through a step its answer is the one that is defined.
 use Rattle.std.proofs.Common.{◌≡◌, ℕ, ◌+◌, ◌<◌, ◌≤◌, true, false, ltb, leb, List, [], ◌∷◌, map, length, get_or, Some, None, Ok, Err, Result, sym, refl, ap, ◌∙◌, arith}
 use Rattle.std.proofs.lemmas.Bool.{le-leb, lt-leb, lt-ltb, leb-true, and_parts, cond-true, cond-false}
 use Rattle.std.proofs.lemmas.List.{length-map, get_or_default}
@@ -22,12 +22,12 @@ use Rattle.replayer.specs.Groups.{read_group}
 use Rattle.replayer.specs.Steps.{Outcome, behind_head, advanced, ahead, freed, passed, Bars, cleared, MayGo, WentOn, refused, acted, asked, gone, stepped}
 
 -- the same numbers, whether a reader or a step is refused
-pub same_refusal : (e : Refusal) → step_refusal (step_refusal_from e) ≡ refusal e
+same_refusal : (e : Refusal) → step_refusal (step_refusal_from e) ≡ refusal e
 same_refusal Unfit = refl
 same_refusal (Faulty e) = refl
 
 -- all but a halt are able where their cell is there
-pub able_within : (r : Request) (n : ℕ) → (r ≡ Halt → ⊥) → able r n ≡ within r n
+able_within : (r : Request) (n : ℕ) → (r ≡ Halt → ⊥) → able r n ≡ within r n
 able_within Halt n h = absurd (h refl)
 able_within Local n h = refl
 able_within (Read c) n h = refl

@@ -1,15 +1,11 @@
 -- Steps and runs on the plain memory: each step is a turn of it that is accepted, or leaves it as it was.
 use Rattle.std.specs.Prelude.{◌≡◌, ℕ, true, List, [], ◌∷◌, length, take, slice_index}
 use Rattle.cores.specs.declared.interface.Request.{Request}
-use Rattle.cores.specs.Memory.{Rules, Memory, outcome, turned, accepts, plain, Accepted}
+use Rattle.cores.specs.Memory.{Rules, rules, Memory, outcome, turned, accepts, plain, Accepted}
 use Rattle.replayer.specs.declared.replay.Replayer.{Replayer}
 use Rattle.replayer.specs.Answers.{done_numbers}
 use Rattle.replayer.specs.Runs.{counted, Session, session, one, ran}
 use Rattle.replayer.specs.Steps.{Outcome, stepped}
-
--- the rules of a kind of core over a text
-abbrev pub rules_of : (List ℕ → List ℕ → Request) → (List ℕ → List ℕ → ℕ → List ℕ) → List ℕ → Rules
-rules_of next after text = record { next = next text; after = after text }
 
 -- the cells and states within the sizes, and what each core has done
 abbrev pub memory_of : Replayer → List ℕ → List (List ℕ) → Memory
@@ -25,7 +21,7 @@ pub data Alike (K : Rules) (m : Memory) (j : ℕ) (o : Outcome) : Type 0 where
 abbrev pub StepsAlike : Type 0
 StepsAlike =
     (next : List ℕ → List ℕ → Request) (after : List ℕ → List ℕ → ℕ → List ℕ) (text : List ℕ) (R : Replayer) (cells : List ℕ) (states : List (List ℕ)) (store : List ℕ) (j : ℕ) →
-    length R.done ≡ 4 → Alike (rules_of next after text) (memory_of R cells states) j (stepped next after text R cells states store j)
+    length R.done ≡ 4 → Alike (rules next after text) (memory_of R cells states) j (stepped next after text R cells states store j)
 
 -- what there is now is what n accepted turns made of the memory m
 pub record Played (K : Rules) (m : Memory) (n : ℕ) (R : Replayer) (cells : List ℕ) (states : List (List ℕ)) : Type 0 where
@@ -44,11 +40,11 @@ abbrev pub StepsPlay : Type 0
 StepsPlay =
     (next : List ℕ → List ℕ → Request) (after : List ℕ → List ℕ → ℕ → List ℕ) (text store : List ℕ) (R : Replayer) (cells : List ℕ) (states : List (List ℕ)) (steps : List ℕ) → length R.done ≡ 4 →
     let s : Session = walked next after text store (session 0 R cells states) steps in
-    Played (rules_of next after text) (memory_of R cells states) s.carried s.replayer s.cells s.states
+    Played (rules next after text) (memory_of R cells states) s.carried s.replayer s.cells s.states
 
 -- and a run, which says how many it carried out
 abbrev pub RunsPlay : Type 0
 RunsPlay =
     (next : List ℕ → List ℕ → Request) (after : List ℕ → List ℕ → ℕ → List ℕ) (text store : List ℕ) (R : Replayer) (cells : List ℕ) (states : List (List ℕ)) → length R.done ≡ 4 →
     let o : Outcome = ran next after text store R cells states in
-    Played (rules_of next after text) (memory_of R cells states) (slice_index o.says 1) o.replayer o.cells o.states
+    Played (rules next after text) (memory_of R cells states) (slice_index o.says 1) o.replayer o.cells o.states

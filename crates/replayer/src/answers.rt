@@ -5,7 +5,7 @@ use cores::interface::Request;
 use records::faults::{Refusal, SessionFault};
 use records::format::Source;
 
-// An instruction that was carried out: what it asked, as its core's how manyth, and the number that it brought.
+// An instruction that was carried out: its request, its count, and the number that it brought.
 #[derive(Clone, Copy)]
 pub struct Done {
     pub request: Request,

@@ -1,37 +1,36 @@
 -- After any steps and calls since an opening, the replay agrees with the plain memory.
 use Rattle.std.proofs.Common.{◌≡◌, ℕ, ◌-◌, Bool, true, false, cond, ◌≢◌, List, [], ◌∷◌, length, Ok, Err, Result, sym, refl, ap, ◌∙◌, subst, arith}
-use Rattle.cores.specs.Memory.{Rules, Memory, plain}
+use Rattle.cores.specs.Memory.{Rules, rules, Memory, plain}
 use Rattle.cores.specs.declared.interface.Request.{Request}
 use Rattle.logs.specs.Session as reading
 use Rattle.records.specs.Faults.{Fault, bad_setting}
 use Rattle.records.specs.Settings.{settled}
 use Rattle.records.specs.declared.settings.Sizes.{Sizes}
 use Rattle.replayer.proofs.Runs.{stepped_moves}
-use Rattle.replayer.specs.Memories.{rules_of, walked}
+use Rattle.replayer.specs.Memories.{walked}
 use Rattle.replayer.specs.Runs.{Session, session, one}
 use Rattle.replayer.specs.Steps.{found, reopened}
 use Rattle.replayer.specs.declared.replay.Replayer.{Replayer}
 use Rattle.runs.specs.Recording.{Arc}
 use Rattle.runs.specs.Replay.{Progress, replayed, Replays}
 use Rattle.replays.specs.Matches.{Matches, step_says}
-use Rattle.replays.specs.Promise.{StepsAgree}
-use Rattle.replays.specs.Walks.{onto, Walked}
+use Rattle.replays.specs.Promise.{StepsAgree, onto}
 use Rattle.replays.specs.Calls.{Stage, stage, Continues, none, steps, runs, not_opened}
 use Rattle.replays.proofs.Answering.{steps_say}
 use Rattle.replays.proofs.Stepping.{steps_match}
-use Rattle.replays.proofs.Walking.{walks_match, runs_finish}
+use Rattle.replays.proofs.Walking.{walks_match, runs_finish, Walked}
 
 module _ (next : List ℕ → List ℕ → Request) (after : List ℕ → List ℕ → ℕ → List ℕ) (text : List ℕ) where
   -- steps leave the sizes
-  pub walked_sizes : (store : List ℕ) (s : Session) (js : List ℕ) → length s.replayer.done ≡ 4 → (walked next after text store s js).replayer.sizes ≡ s.replayer.sizes
+  walked_sizes : (store : List ℕ) (s : Session) (js : List ℕ) → length s.replayer.done ≡ 4 → (walked next after text store s js).replayer.sizes ≡ s.replayer.sizes
   walked_sizes store s [] four = refl
   walked_sizes store s (j ∷ more) four =
       let v = stepped_moves next after text store s.replayer s.cells s.states j four in
       walked_sizes store (one next after text store s j) more v.four ∙ v.sizes
 
-  module _ (m : Memory) (u : List ℕ) (L : List Arc) (store : List ℕ) (rp : Replays (rules_of next after text) m u L) where
+  module _ (m : Memory) (u : List ℕ) (L : List Arc) (store : List ℕ) (rp : Replays (rules next after text) m u L) where
     abbrev K : Rules
-    K = rules_of next after text
+    K = rules next after text
 
     abbrev n : List ℕ
     n = (plain K m u).counts

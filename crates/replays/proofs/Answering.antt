@@ -1,9 +1,9 @@
--- What a step says, over the arcs of the recording.
+-- A step answers by the arcs of the recording: no such core, all replayed, a wait, or what the plain memory does.
 use Rattle.std.proofs.Common.{◌≡◌, ℕ, ◌+◌, ◌<◌, ◌≤◌, true, leb, List, [], ◌∷◌, get_or, sym, refl, ap, ◌∙◌, subst, inl, inr, arith}
 use mathlib.Core.Option.{Option, none, some}
 use Rattle.std.proofs.lemmas.List.{get_or-take}
 use Rattle.std.proofs.lemmas.Bool.{cases_lt, cond-true, cond-false, le-leb, lt-leb}
-use Rattle.cores.specs.Memory.{Rules, Memory, outcome}
+use Rattle.cores.specs.Memory.{Rules, rules, Memory, outcome}
 use Rattle.cores.specs.declared.interface.Request.{Request}
 use Rattle.records.specs.Settings.{heading_of}
 use Rattle.records.specs.declared.reading.SavedPlace.{SavedPlace}
@@ -11,20 +11,20 @@ use Rattle.recordings.specs.Tracks.{logs_of}
 use Rattle.replayer.proofs.Following.{step_waits}
 use Rattle.replayer.specs.Answers.{done_numbers}
 use Rattle.replayer.specs.Following.{place_behind}
-use Rattle.replayer.specs.Memories.{memory_of, rules_of}
+use Rattle.replayer.specs.Memories.{memory_of}
 use Rattle.replayer.specs.Steps.{gone, freed, cleared, stepped}
 use Rattle.replayer.specs.declared.replay.Replayer.{Replayer}
 use Rattle.runs.specs.Recording.{Arc, log}
 use Rattle.runs.specs.Replay.{Progress, free, waiting, goes}
-use Rattle.replays.specs.Matches.{Matches, waited, step_says, StepsSay}
+use Rattle.replays.specs.Matches.{Matches, waited, step_says}
 use Rattle.replays.proofs.Stepping.{steps_match}
 use Rattle.replays.proofs.Waits.{waits_none, waits_free, source_waited, waits_first}
 
 module _ (next : List ℕ → List ℕ → Request) (after : List ℕ → List ℕ → ℕ → List ℕ) (text n : List ℕ) (L : List Arc) (store : List ℕ) (R : Replayer) (cells : List ℕ) (states : List (List ℕ)) (p : Progress) (j : ℕ)
     (m : Matches n L store R cells states p)
-    (unrefused : get_or p.memory.counts j 0 < get_or n j 0 → free L p.memory.counts j ≡ true → goes (rules_of next after text) L n p.memory j ≡ true) where
+    (unrefused : get_or p.memory.counts j 0 < get_or n j 0 → free L p.memory.counts j ≡ true → goes (rules next after text) L n p.memory j ≡ true) where
   abbrev K : Rules
-  K = rules_of next after text
+  K = rules next after text
 
   abbrev P : ℕ
   P = R.sizes.cores
@@ -88,5 +88,10 @@ module _ (next : List ℕ → List ℕ → Request) (after : List ℕ → List �
     | inr h ↦ beyond h
   ]
 
-pub steps_say : StepsSay
+-- so says a step, where no core that has an instruction left and does not wait is refused
+pub steps_say :
+    (next : List ℕ → List ℕ → Request) (after : List ℕ → List ℕ → ℕ → List ℕ) (text n : List ℕ) (L : List Arc) (store : List ℕ) (R : Replayer) (cells : List ℕ) (states : List (List ℕ)) (p : Progress) (j : ℕ) →
+    let K = rules next after text in
+    Matches n L store R cells states p → (get_or p.memory.counts j 0 < get_or n j 0 → free L p.memory.counts j ≡ true → goes K L n p.memory j ≡ true) →
+    (stepped next after text R cells states store j).says ≡ step_says K R.sizes.cores n L p.memory j
 steps_say next after text n L store R cells states p j m f = says next after text n L store R cells states p j m f

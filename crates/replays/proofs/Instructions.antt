@@ -1,9 +1,9 @@
 -- What a run carried out has each instruction once, so that its core and count find it.
 use Rattle.std.proofs.Common.{◌≡◌, ℕ, suc, ◌<◌, ◌≤◌, true, false, ◌&&◌, eqb, ltb, List, [], ◌∷◌, length, get_or, set, Some, sym, ap, ◌∙◌, inl, inr, arith}
-use Rattle.std.proofs.lemmas.List.{get_or-set_same, get_or-set_other}
+use Rattle.std.proofs.lemmas.List.{get_or-set_same, get_or-set_other, length-replicate}
 use Rattle.std.proofs.lemmas.Bool.{and_parts, and_from, cond-true, cond-false, eq-eqb, eqb-true, ltb-true, cases_eq, cases_Bool}
+use Rattle.cores.proofs.Storing.{states_size, counts_size}
 use Rattle.cores.specs.Memory.{Rules, Memory, Outcome, outcome, effect, plain, start, accepts, able, Accepted, outcomes, instruction}
-use Rattle.recordings.proofs.Tracking.{counts_size, states_size, length_replicate}
 use Rattle.runs.specs.Recording.{In}
 
 module _ (K : Rules) (cells : List ℕ) (states : List (List ℕ)) where
@@ -14,7 +14,7 @@ module _ (K : Rules) (cells : List ℕ) (states : List (List ℕ)) where
   has_count : (t : List ℕ) (j : ℕ) → accepts K (plain K m t) j ≡ true → j < length (plain K m t).counts
   has_count t j ok =
       let h = ltb-true j (length (plain K m t).states) (and_parts (ltb j (length (plain K m t).states)) (able (K.next (get_or (plain K m t).states j [])) (length (plain K m t).cells)) ok).0 in
-      omega (arith, h, counts_size K m t, states_size K m t, length_replicate (length states))
+      omega (arith, h, counts_size K m t, states_size K m t, length-replicate {A = ℕ} (length states) 0)
 
   -- what was carried out is counted
   within_counts : (u : List ℕ) → Accepted K m u → (e : Outcome) → In e (outcomes K m u) → e.count ≤ get_or (plain K m u).counts e.core 0

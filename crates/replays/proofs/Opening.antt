@@ -16,15 +16,15 @@ use Rattle.recorder.specs.declared.ledger.Log.{Log}
 use Rattle.recordings.specs.Sessions.{Session, Records}
 use Rattle.recordings.specs.Tracks.{logs_of}
 use Rattle.lawful_logs.proofs.Orderly.{counts_at}
+use Rattle.reducers.specs.Numbers.{Meets}
 use Rattle.replayer.proofs.Following.{opening_follows}
 use Rattle.replayer.specs.Following.{Follows}
 use Rattle.replayer.specs.Steps.{found, reopened, started}
 use Rattle.replayer.specs.declared.replay.Replayer.{Replayer}
-use Rattle.runs.specs.Recording.{Meets}
 use Rattle.traces.specs.Recording.{Recording, Faithful}
 use Rattle.runs.specs.Replay.{replayed}
 use Rattle.replays.specs.Matches.{Matches}
-use Rattle.replays.specs.Opening.{Again, RecordingsOpen}
+use Rattle.replays.specs.Promise.{SameStart}
 
 -- the bytes of a log lie within those of all logs
 same_log : (z : Sizes) (j : ℕ) (a b : List ℕ) → j < z.cores → take (z.cores * z.log_bytes) a ≡ take (z.cores * z.log_bytes) b → log_of a z j ≡ log_of b z j
@@ -56,7 +56,7 @@ is_ok (Ok c) counts q = let e : c ≡ counts = cc in ap Ok e
 is_ok (Err f) counts q = let e : ◌≡◌ {A = ℕ} 9 0 = cc in absurd (omega (arith, e))
 
 module _ (meets : Meets) (K : Rules) (w : World) (r : Recording) (s : Session) (f : Faithful w r) (o : Orderly w r) (rec : Records meets K w r s)
-    (R : Replayer) (store cells : List ℕ) (states : List (List ℕ)) (g : Again w.tape.book.sizes s w.tape.store store cells states) where
+    (R : Replayer) (store cells : List ℕ) (states : List (List ℕ)) (g : SameStart w.tape.book.sizes s w.tape.store store cells states) where
   abbrev z : Sizes
   z = w.tape.book.sizes
 
@@ -95,7 +95,15 @@ module _ (meets : Meets) (K : Rules) (w : World) (r : Recording) (s : Session) (
         recorded = λ k h. counts_at w.tape.book.logs k ∙ rec.tracks.counts k h;
       }
 
-pub recordings_open : (meets : Meets) → RecordingsOpen meets
+pub recordings_open :
+    (meets : Meets)
+    (K : Rules) (w : World) (r : Recording) (s : Session) → Faithful w r → Orderly w r → (rec : Records meets K w r s) →
+    (R : Replayer) (store cells : List ℕ) (states : List (List ℕ)) → SameStart w.tape.book.sizes s w.tape.store store cells states →
+    let o = reopened R w.tape.book.sizes (length states) (length cells) store in
+    let m = start s.cells s.states in
+    (o.says ≡ 0 ∷ [])
+    × (o.replayer.sizes ≡ w.tape.book.sizes)
+    × Matches (plain K m s.turns).counts rec.arcs store o.replayer cells states (replayed K m s.turns rec.arcs [])
 recordings_open meets K w r s f o rec R store cells states g =
     let q = opens meets K w r s f o rec R store cells states g in (
       ap (λ x. x.says) q,

@@ -2,7 +2,7 @@
 use Rattle.std.proofs.Common.{◌≡◌, ℕ, ◌+◌, ◌<◌, ◌≤◌, leb, List, [], ◌∷◌, ◌++◌, length, get_or, drop, sym, ap, ◌∙◌, subst, arith, length-append}
 use Rattle.std.proofs.lemmas.List.{length-take-le}
 use Rattle.std.proofs.lemmas.Bool.{and_parts, leb-true}
-use Rattle.cores.specs.Memory.{Rules, Memory, plain, start}
+use Rattle.cores.specs.Memory.{Rules, rules, Memory, plain, start}
 use Rattle.cores.specs.declared.interface.Request.{Request}
 use Rattle.lawful_logs.proofs.Orderly.{traces_are_orderly, new_is_orderly}
 use Rattle.records.specs.Settings.{fits, no_sizes}
@@ -10,16 +10,15 @@ use Rattle.records.specs.declared.settings.Sizes.{Sizes}
 use Rattle.recorder.specs.Turns.{Tape}
 use Rattle.recordings.proofs.Sessions.{traces_are_recorded, new_has_recorded_nothing}
 use Rattle.recordings.specs.Sessions as recorded
-use Rattle.replayer.specs.Memories.{rules_of}
+use Rattle.reducers.specs.Numbers.{Meets}
 use Rattle.replayer.specs.Runs.{session, counted}
 use Rattle.replayer.specs.Steps.{reopened}
 use Rattle.replayer.specs.declared.replay.Replayer.{Replayer}
 use Rattle.runs.proofs.AnyReducer.{replay_agrees_with}
-use Rattle.runs.specs.Recording.{Meets}
 use Rattle.runs.specs.Theorems.{Bounded}
 use Rattle.traces.proofs.Recordings.{traces_are_faithful, new_is_faithful}
 use Rattle.traces.specs.Recording as traced
-use Rattle.replays.specs.Promise.{NoDroppedOrderingWasNeeded}
+use Rattle.replays.specs.Promise.{NoDroppedOrderingWasNeeded, SameStart}
 use Rattle.replays.specs.Calls.{stage}
 use Rattle.replays.proofs.Opening.{recordings_open}
 use Rattle.cores.specs.Memory.{outcomes}
@@ -36,8 +35,7 @@ use Rattle.recorder.specs.Turns.{World}
 use Rattle.recorder.specs.declared.ledger.Log.{Log}
 use Rattle.recordings.proofs.ByTheRules.{turns_go_by_the_rules}
 use Rattle.recordings.specs.Tracks.{logs_of}
-use Rattle.replays.specs.Opening.{Again}
-use Rattle.replays.specs.Promise.{ReplayAgrees, LogsHold}
+use Rattle.replays.specs.Promise.{ReplaysAsRecorded, LogsHold}
 use Rattle.replays.specs.Replies.{reply, replies, dones}
 use Rattle.replays.proofs.Agreeing.{steps_agree, calls_agree}
 use Rattle.replays.proofs.Replying.{replied, never_stuck}
@@ -57,9 +55,9 @@ log_holds z k l bytes old arcs arcs' n h q e =
     ∙ (λ i. let x = written (whole (heading_of z k) (q i) (e i)) in x ++ drop (length x) old)
 
 module _ (meets : Meets) (bounded : Bounded meets) (next : List ℕ → List ℕ → Request) (after : List ℕ → List ℕ → ℕ → List ℕ) (text : List ℕ)
-    (v : World) (r : traced.Recording) (s : recorded.Session) (f : traced.Faithful v r) (o : Orderly v r) (rec : recorded.Records meets (rules_of next after text) v r s) where
+    (v : World) (r : traced.Recording) (s : recorded.Session) (f : traced.Faithful v r) (o : Orderly v r) (rec : recorded.Records meets (rules next after text) v r s) where
   abbrev K : Rules
-  K = rules_of next after text
+  K = rules next after text
 
   abbrev m : Memory
   m = start s.cells s.states
@@ -67,9 +65,9 @@ module _ (meets : Meets) (bounded : Bounded meets) (next : List ℕ → List ℕ
   abbrev z : Sizes
   z = v.tape.book.sizes
 
-  pub replay_agrees_over : (R : Replayer) (store cells : List ℕ) (states : List (List ℕ)) → Again z s v.tape.store store cells states →
-      ReplayAgrees next after text z s rec.arcs R store cells states
-  replay_agrees_over R store cells states g =
+  pub replays_as_recorded : (R : Replayer) (store cells : List ℕ) (states : List (List ℕ)) → SameStart z s v.tape.store store cells states →
+      ReplaysAsRecorded next after text z s rec.arcs R store cells states
+  replays_as_recorded R store cells states g =
       let a = recordings_open meets K v r s f o rec R store cells states g in
       let opened = (reopened R z (length states) (length cells) store).replayer in
       let rp = replay_agrees_with meets bounded K (λ c. c) s.cells s.states s.turns rec.tracks.accepted v.tape.numbers rec.arcs rec.tracks.recording in
@@ -110,7 +108,7 @@ module _ (meets : Meets) (bounded : Bounded meets) (next : List ℕ → List ℕ
 
 pub no_dropped_ordering_was_needed : (meets : Meets) → Bounded meets → (next : List ℕ → List ℕ → Request) (after : List ℕ → List ℕ → ℕ → List ℕ) (text : List ℕ) → NoDroppedOrderingWasNeeded meets next after text
 no_dropped_ordering_was_needed meets bounded next after text w v es t new =
-    let K = rules_of next after text in
+    let K = rules next after text in
     let r₀ = traced.opened no_sizes w in
     let r = traced.recording_after t r₀ in
     let s = recorded.session_after t (recorded.opened no_sizes w) in
@@ -128,5 +126,5 @@ no_dropped_ordering_was_needed meets bounded next after text w v es t new =
       states = rec.tracks.states;
       logs = logs_hold meets bounded next after text v r s f o rec;
       turns = λ j x T. turns_go_by_the_rules meets K v r s j x f rec T;
-      replays = replay_agrees_over meets bounded next after text v r s f o rec;
+      replays = replays_as_recorded meets bounded next after text v r s f o rec;
     }

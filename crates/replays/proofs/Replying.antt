@@ -2,11 +2,10 @@
 use Rattle.std.proofs.Common.{◌≡◌, ℕ, suc, ◌<◌, Bool, true, false, cond, leb, List, [], ◌∷◌, length, get_or, set, Some, sym, refl, ap, ◌∙◌, subst, inl}
 use mathlib.Core.Option.{none, some}
 use Rattle.std.proofs.lemmas.Bool.{cond-true, leb-false}
-use Rattle.cores.specs.Memory.{Rules, Memory, Outcome, outcome, effect, turned, plain, start, Accepted, outcomes, instruction}
+use Rattle.cores.specs.Memory.{Rules, rules, Memory, Outcome, outcome, effect, turned, plain, start, Accepted, outcomes, instruction}
 use Rattle.cores.specs.declared.interface.Request.{Request}
 use Rattle.replayer.proofs.Runs.{stepped_moves}
 use Rattle.replayer.specs.Answers.{done_numbers}
-use Rattle.replayer.specs.Memories.{rules_of}
 use Rattle.replayer.specs.Runs.{Session, counted, one}
 use Rattle.replayer.specs.Steps.{stepped}
 use Rattle.runs.proofs.ReplaySteps.{goes_parts}
@@ -15,10 +14,9 @@ use Rattle.runs.specs.Recording.{Arc, In, log}
 use Rattle.runs.specs.Replay.{Progress, free, waiting, goes, replayed, Replays}
 use Rattle.replays.specs.Matches.{step_says, waited}
 use Rattle.replays.specs.Replies.{instruction_said, reply, done_after, replies, dones, steps_said}
-use Rattle.replays.specs.Walks.{Walked}
 use Rattle.replays.proofs.Agreeing.{agree_at}
 use Rattle.replays.proofs.Instructions.{found}
-use Rattle.replays.proofs.Walking.{one_walks}
+use Rattle.replays.proofs.Walking.{one_walks, Walked}
 
 leaves_alike : (b c : Bool) (x y l r : List ℕ) → (c ≡ false → l ≡ r) → cond b x (cond c y l) ≡ cond b x (cond c y r)
 leaves_alike true c x y l r h = refl
@@ -26,9 +24,9 @@ leaves_alike false true x y l r h = refl
 leaves_alike false false x y l r h = h refl
 
 module _ (next : List ℕ → List ℕ → Request) (after : List ℕ → List ℕ → ℕ → List ℕ) (text cs : List ℕ) (ss : List (List ℕ)) (u : List ℕ) (L : List Arc) (store : List ℕ)
-    (ok : Accepted (rules_of next after text) (start cs ss) u) (rp : Replays (rules_of next after text) (start cs ss) u L) where
+    (ok : Accepted (rules next after text) (start cs ss) u) (rp : Replays (rules next after text) (start cs ss) u L) where
   abbrev K : Rules
-  K = rules_of next after text
+  K = rules next after text
 
   abbrev m : Memory
   m = start cs ss

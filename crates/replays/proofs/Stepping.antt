@@ -2,10 +2,10 @@
 use Rattle.std.proofs.Common.{◌≡◌, ℕ, ◌+◌, ◌<◌, ◌≤◌, Bool, true, false, cond, ◌&&◌, ltb, leb, List, [], ◌∷◌, length, get_or, Some, None, Option, sym, refl, ap, ◌∙◌, inl, inr, arith}
 use Rattle.std.proofs.lemmas.List.{get_or-take, length-take-le, length-set}
 use Rattle.std.proofs.lemmas.Bool.{cases_lt, cond-true, cond-false, and_parts, leb-true, le-leb, lt-leb, lt-ltb, le-ltb, false≢true}
+use Rattle.cores.proofs.Storing.{length_stored}
 use Rattle.cores.specs.Acting.{within}
-use Rattle.cores.specs.Memory.{Rules, Memory, able, accepts, brought, stored, outcome, turned}
+use Rattle.cores.specs.Memory.{Rules, rules, Memory, able, accepts, brought, outcome, turned}
 use Rattle.cores.specs.declared.interface.Request.{Request}
-use Rattle.cores.specs.declared.interface.Request.TheVariants.{Halt, Local, Read, Write, Exchange}
 use Rattle.records.specs.Settings.{fits, settled, heading_of}
 use Rattle.records.specs.declared.reading.SavedPlace.{SavedPlace}
 use Rattle.recordings.specs.Tracks.{logs_of}
@@ -15,14 +15,14 @@ use Rattle.replayer.proofs.Ways.{any_step}
 use Rattle.replayer.specs.Answers.{done_numbers}
 use Rattle.replayer.specs.Following.{Follows, arcs_to, place_behind}
 use Rattle.replayer.specs.Groups.{waits_for}
-use Rattle.replayer.specs.Memories.{memory_of, rules_of, Alike, stays, turns}
+use Rattle.replayer.specs.Memories.{memory_of, Alike, stays, turns}
 use Rattle.replayer.specs.Runs.{counted}
 use Rattle.replayer.specs.Steps.{Outcome, refused, acted, gone, freed, cleared, stepped}
 use Rattle.records.specs.declared.format.Source.{Source}
 use Rattle.replayer.specs.declared.replay.Replayer.{Replayer}
 use Rattle.runs.specs.Recording.{Arc}
 use Rattle.runs.specs.Replay.{Progress, free, goes, step}
-use Rattle.replays.specs.Matches.{Matches, StepGoes, StepsMatch}
+use Rattle.replays.specs.Matches.{Matches, StepGoes}
 use Rattle.replays.proofs.Waits.{waits_none, waits_free}
 
 never : (a b : Bool) → (a && (b && false)) ≡ false
@@ -34,7 +34,7 @@ module _ (next : List ℕ → List ℕ → Request) (after : List ℕ → List �
     (F : Follows store (λ k. logs_of k L) R) (ready : settled R.sizes (length states) (length cells) (length store) ≡ true)
     (recorded : (k : ℕ) → k < R.sizes.cores → get_or R.counts k 0 ≡ get_or n k 0) where
   abbrev K : Rules
-  K = rules_of next after text
+  K = rules next after text
 
   abbrev P : ℕ
   P = R.sizes.cores
@@ -93,18 +93,11 @@ module _ (next : List ℕ → List ℕ → Request) (after : List ℕ → List �
       ∙ (λ i. cond (waits_free (heading_of R.sizes j) R.done j L mine (F.holds j mine).lawful i && sym (accepts_is mine) i) 1 0)
       ∙ ap (λ b. cond (b && (free L M.counts j && accepts K M j)) 1 0) (sym (lt-ltb (get_or M.counts j 0) (get_or n j 0) (omega (arith, h, recorded j mine, get_or-take P R.done j 0 mine))))
 
-  pub goes_alike : counted o.says ≡ cond (goes K L n M j) 1 0
+  goes_alike : counted o.says ≡ cond (goes K L n M j) 1 0
   goes_alike = elim (cases_lt j P) [
     | inl mine ↦ elim (cases_lt (get_or R.done j 0) (get_or R.counts j 0)) [ inl h ↦ left mine h | inr h ↦ spent mine h ]
     | inr h ↦ beyond h
   ]
-
-stored_length : (r : Request) (cells : List ℕ) → length (stored r cells) ≡ length cells
-stored_length Halt cells = refl
-stored_length Local cells = refl
-stored_length (Read c) cells = refl
-stored_length (Write c v) cells = length-set cells c v
-stored_length (Exchange c v) cells = length-set cells c v
 
 -- what no step changes
 pub record Kept (n store : List ℕ) (o : Outcome) : Type 0 where
@@ -118,7 +111,7 @@ kept next after text n store R cells states j ready recorded =
     any_step next after text R cells states store j (Kept n store)
     (λ says q. record { ready = ready; recorded = recorded })
     (λ G w. record {
-      ready = (λ i. settled R.sizes (length-set states j (after text (get_or states j []) (brought (next text (get_or states j [])) cells)) i) (stored_length (next text (get_or states j [])) cells i) (length store)) ∙ ready;
+      ready = (λ i. settled R.sizes (length-set states j (after text (get_or states j []) (brought (next text (get_or states j [])) cells)) i) (length_stored (next text (get_or states j [])) cells i) (length store)) ∙ ready;
       recorded = recorded;
     })
 
@@ -132,35 +125,37 @@ goes_so false q = absurd (omega (arith, q))
 
 module _ (next : List ℕ → List ℕ → Request) (after : List ℕ → List ℕ → ℕ → List ℕ) (text n : List ℕ) (L : List Arc) (store : List ℕ) (R : Replayer) (cells : List ℕ) (states : List (List ℕ)) (p : Progress) (j : ℕ)
     (m : Matches n L store R cells states p) where
-  abbrev rules : Rules
-  rules = rules_of next after text
+  abbrev kind : Rules
+  kind = rules next after text
 
   abbrev left_by : Outcome
   left_by = stepped next after text R cells states store j
 
-  carries : counted left_by.says ≡ cond (goes rules L n p.memory j) 1 0
-  carries = goes_alike next after text n L store R cells states j m.follows m.ready m.recorded ∙ ap (λ x. cond (goes rules L n x j) 1 0) m.memory
+  carries : counted left_by.says ≡ cond (goes kind L n p.memory j) 1 0
+  carries = goes_alike next after text n L store R cells states j m.follows m.ready m.recorded ∙ ap (λ x. cond (goes kind L n x j) 1 0) m.memory
 
   matching : (q : Progress) → memory_of left_by.replayer left_by.cells left_by.states ≡ q.memory → Matches n L store left_by.replayer left_by.cells left_by.states q
   matching q e =
       let k = kept next after text n store R cells states j m.ready m.recorded in
       record { follows = steps_follow next after text R cells states store (λ k. logs_of k L) m.follows j; ready = k.ready; memory = e; recorded = k.recorded }
 
-  matched : Alike rules (memory_of R cells states) j left_by → StepGoes rules n L store p j left_by
+  matched : Alike kind (memory_of R cells states) j left_by → StepGoes kind n L store p j left_by
   matched (stays q e) =
-      let no = goes_not (goes rules L n p.memory j) (sym q ∙ carries) in
+      let no = goes_not (goes kind L n p.memory j) (sym q ∙ carries) in
       record {
         carried = carries;
         says = λ yes. absurd (false≢true (sym no ∙ yes));
-        matches = matching (step rules L n p j) (e ∙ m.memory ∙ ap (λ x. x.memory) (sym (cond-false (goes rules L n p.memory j) (record { memory = turned rules p.memory j; outcomes = outcome rules p.memory j ∷ p.outcomes }) p no)));
+        matches = matching (step kind L n p j) (e ∙ m.memory ∙ ap (λ x. x.memory) (sym (cond-false (goes kind L n p.memory j) (record { memory = turned kind p.memory j; outcomes = outcome kind p.memory j ∷ p.outcomes }) p no)));
       }
   matched (turns s a e) =
-      let yes = goes_so (goes rules L n p.memory j) (sym (ap counted s) ∙ carries) in
+      let yes = goes_so (goes kind L n p.memory j) (sym (ap counted s) ∙ carries) in
       record {
         carried = carries;
-        says = λ _. s ∙ ap (λ x. done_numbers (outcome rules x j).request (outcome rules x j).count (outcome rules x j).number) m.memory;
-        matches = matching (step rules L n p j) (e ∙ ap (λ x. turned rules x j) m.memory ∙ ap (λ x. x.memory) (sym (cond-true (goes rules L n p.memory j) (record { memory = turned rules p.memory j; outcomes = outcome rules p.memory j ∷ p.outcomes }) p yes)));
+        says = λ _. s ∙ ap (λ x. done_numbers (outcome kind x j).request (outcome kind x j).count (outcome kind x j).number) m.memory;
+        matches = matching (step kind L n p j) (e ∙ ap (λ x. turned kind x j) m.memory ∙ ap (λ x. x.memory) (sym (cond-true (goes kind L n p.memory j) (record { memory = turned kind p.memory j; outcomes = outcome kind p.memory j ∷ p.outcomes }) p yes)));
       }
 
-pub steps_match : StepsMatch
+pub steps_match :
+    (next : List ℕ → List ℕ → Request) (after : List ℕ → List ℕ → ℕ → List ℕ) (text n : List ℕ) (L : List Arc) (store : List ℕ) (R : Replayer) (cells : List ℕ) (states : List (List ℕ)) (p : Progress) (j : ℕ) →
+    Matches n L store R cells states p → StepGoes (rules next after text) n L store p j (stepped next after text R cells states store j)
 steps_match next after text n L store R cells states p j m = matched next after text n L store R cells states p j m (steps_alike next after text R cells states store j m.follows.four)

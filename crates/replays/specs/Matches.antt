@@ -2,17 +2,16 @@
 use Rattle.std.specs.Prelude.{◌≡◌, ℕ, ◌<◌, true, cond, List, [], ◌∷◌, length, nat_le, slice_index}
 use Rattle.std.proofs.Math.Option.{Option, none, some}
 use Rattle.cores.specs.Memory.{Rules, Memory, outcome}
-use Rattle.cores.specs.declared.interface.Request.{Request}
 use Rattle.records.specs.Settings.{settled}
 use Rattle.recordings.specs.Tracks.{logs_of}
 use Rattle.replayer.specs.Answers.{done_numbers}
 use Rattle.replayer.specs.Following.{Follows}
-use Rattle.replayer.specs.Memories.{memory_of, rules_of}
+use Rattle.replayer.specs.Memories.{memory_of}
 use Rattle.replayer.specs.Runs.{counted}
-use Rattle.replayer.specs.Steps.{Outcome, stepped}
+use Rattle.replayer.specs.Steps.{Outcome}
 use Rattle.replayer.specs.declared.replay.Replayer.{Replayer}
 use Rattle.runs.specs.Recording.{Arc, log}
-use Rattle.runs.specs.Replay.{Progress, free, waiting, goes, step}
+use Rattle.runs.specs.Replay.{Progress, waiting, goes, step}
 
 -- the replayer has opened the logs of the arcs L, of a recording with n instructions of each core, and has come as far as the replay p over L
 pub record Matches (n : List ℕ) (L : List Arc) (store : List ℕ) (R : Replayer) (cells : List ℕ) (states : List (List ℕ)) (p : Progress) : Type 0 where
@@ -27,11 +26,6 @@ pub record StepGoes (K : Rules) (n : List ℕ) (L : List Arc) (store : List ℕ)
   pub says : goes K L n p.memory j ≡ true → o.says ≡ done_numbers (outcome K p.memory j).request (outcome K p.memory j).count (outcome K p.memory j).number
   pub matches : Matches n L store o.replayer o.cells o.states (step K L n p j)
 
-abbrev pub StepsMatch : Type 0
-StepsMatch =
-    (next : List ℕ → List ℕ → Request) (after : List ℕ → List ℕ → ℕ → List ℕ) (text n : List ℕ) (L : List Arc) (store : List ℕ) (R : Replayer) (cells : List ℕ) (states : List (List ℕ)) (p : Progress) (j : ℕ) →
-    Matches n L store R cells states p → StepGoes (rules_of next after text) n L store p j (stepped next after text R cells states store j)
-
 -- 6 with the source of the first arc that is waited for, or else what is said
 abbrev pub waited : Option Arc → List ℕ → List ℕ
 waited (some a) done = 6 ∷ a.source.core ∷ a.source.count ∷ []
@@ -44,11 +38,3 @@ step_says K P n L m j =
     cond (nat_le P j) (1 ∷ [])
     (cond (nat_le (slice_index n j) (slice_index m.counts j)) (7 ∷ [])
     (waited (waiting (log j L) m.counts j) (done_numbers (outcome K m j).request (outcome K m j).count (outcome K m j).number)))
-
--- so says a step, where no core that has an instruction left and does not wait is refused
-abbrev pub StepsSay : Type 0
-StepsSay =
-    (next : List ℕ → List ℕ → Request) (after : List ℕ → List ℕ → ℕ → List ℕ) (text n : List ℕ) (L : List Arc) (store : List ℕ) (R : Replayer) (cells : List ℕ) (states : List (List ℕ)) (p : Progress) (j : ℕ) →
-    let K = rules_of next after text in
-    Matches n L store R cells states p → (slice_index p.memory.counts j < slice_index n j → free L p.memory.counts j ≡ true → goes K L n p.memory j ≡ true) →
-    (stepped next after text R cells states store j).says ≡ step_says K R.sizes.cores n L p.memory j

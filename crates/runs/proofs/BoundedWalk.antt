@@ -4,10 +4,10 @@ use native.Mathlib.Decide.{ℕ_discrete}
 use Rattle.std.proofs.lemmas.Bool.{ne_eqb, cond-false}
 use Rattle.reducers.specs.declared.interface.AccessKind.{AccessKind}
 use Rattle.reducers.specs.declared.interface.AccessKind.TheVariants.{Read, Write}
-use Rattle.reducers.specs.Numbers.{Numbers, ◌⊑◌, stamp}
+use Rattle.reducers.specs.Numbers.{Numbers, Meets, ◌⊑◌, stamp}
 use Rattle.runs.specs.Runs.{local, Event, ev, Run, Instr, core_of, access_of, choose, next}
 use Rattle.runs.specs.Candidates.{Candidate}
-use Rattle.runs.specs.Recording.{Arc, arc, In, place_of, Meets, Judged, none_left, answers_yes, answers_no}
+use Rattle.runs.specs.Recording.{Arc, arc, In, place_of, Judged, none_left, answers_yes, answers_no}
 use Rattle.runs.proofs.WorkingOrder.{Pre, Bef, Inside, Upto, upto_own, upto_trans, pre_upto}
 use Rattle.runs.proofs.Bounds.{max_or, known_taken, stamp_of, with_arc}
 
@@ -22,7 +22,7 @@ Below h v y = (x : Instr) → 1 ≤ x.count → x.count ≤ v x.core → Bef h x
 abbrev pub Ordered : Run → Event → List Arc → Instr → Type 0
 Ordered h e L x = Pre h (ev (core_of e) local) x ⊎ ((z : Instr) × In (arc z (next h e)) L × Upto h x z)
 
-pub ordered_more : (h : Run) (e : Event) (L M : List Arc) (x : Instr) → Sub L M → Ordered h e L x → Ordered h e M x
+ordered_more : (h : Run) (e : Event) (L M : List Arc) (x : Instr) → Sub L M → Ordered h e L x → Ordered h e M x
 ordered_more h e L M x s (inl p) = inl p
 ordered_more h e L M x s (inr (z, i, u)) = inr (z, s (arc z (next h e)) i, u)
 

@@ -1,4 +1,4 @@
--- What the bounds of a reducer's numbers come to.
+-- After a take a known number is the larger of the old one and the count taken or the stamp's entry; what is at most a maximum is at most one of the two.
 use Rattle.std.proofs.Common.{◌≡◌, ℕ, ◌≤◌, max, cond, eqb, ◌⊎◌, refl, ap, ◌∙◌, inl, inr, arith}
 use native.Mathlib.Decide.{ℕ_discrete, dec_le}
 use Rattle.std.proofs.lemmas.Bool.{eq-eqb, ne_eqb, cond-true, cond-false}

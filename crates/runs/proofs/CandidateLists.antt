@@ -96,7 +96,7 @@ keep_sorted h e f t (some y) o u s = go (ℕ_discrete y.source.count (suc (done 
         first z m (inr b) = new f t y.source (kept_source h e f t y o q)
             (bef_left t y.source z.source (u y.source z.source (pick_sound h e t z m).inside b))
 
-pub pick_sorted : (h : Run) (e : Event) (t : Run) → Older t h → Sorted h (pick h e t)
+pick_sorted : (h : Run) (e : Event) (t : Run) → Older t h → Sorted h (pick h e t)
 pick_sorted h e [] u = tt
 pick_sorted h e (f ∷ t) u = keep_sorted h e f t (candidate h e (core_of f)) refl (older_tail f t h u) (pick_sorted h e t (older_tail f t h u))
 

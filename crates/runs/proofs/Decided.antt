@@ -2,11 +2,11 @@
 use Rattle.std.proofs.Common.{◌≡◌, leb, List, ◌∷◌, sym, refl, ap, ◌∙◌}
 use Rattle.std.proofs.lemmas.Bool.{cond-true, cond-false, le-leb, lt-leb}
 use Rattle.reducers.specs.declared.interface.AccessKind.TheVariants.{Read, Write}
-use Rattle.reducers.specs.Numbers.{Numbers, zeros, taken, noted}
-use Rattle.reducers.specs.Rows.{KnownOnly}
+use Rattle.reducers.specs.Numbers.{Numbers, Meets, zeros, taken, noted}
+use Rattle.reducers.specs.Rows.{known_only, KnownOnly}
 use Rattle.runs.specs.Candidates.{Candidate, candidates}
-use Rattle.runs.specs.Recording.{Arc, arc, Meets, Judged, none_left, answers_yes, answers_no, Noted, Recording, begin, turn}
-use Rattle.runs.specs.Reducers.{Reducer, judge, after_note, recorded, known_only}
+use Rattle.runs.specs.Recording.{Arc, arc, Judged, none_left, answers_yes, answers_no, Noted, Recording, begin, turn}
+use Rattle.runs.specs.Reducers.{Reducer, judge, after_note, recorded}
 use Rattle.runs.specs.Runs.{local, read, write, Event, ev, Run, Instr, core_of, next}
 use Rattle.runs.specs.Theorems.{ThreeReducersAreDecided}
 
@@ -27,7 +27,7 @@ module _ (meets : Meets) (F : Numbers → Numbers) (decides : (n b : Numbers) �
   noted_is (ev j (read c)) N N' q = decides N' (noted N j c Read) q
   noted_is (ev j (write c)) N N' q = decides N' (noted N j c Write) q
 
-  pub recorded_is : {r : Run} {N : Numbers} {L : List Arc} → Recording meets r N L → recorded by r ≡ record { numbers = N; arcs = L }
+  recorded_is : {r : Run} {N : Numbers} {L : List Arc} → Recording meets r N L → recorded by r ≡ record { numbers = N; arcs = L }
   recorded_is begin = refl
   recorded_is (turn {e} {h} {N} {N₁} {N₂} {L} {L₁} before judged note) =
       let t : judge by e (next h e) (candidates h e) (recorded by h).numbers (recorded by h).arcs ≡ record { numbers = N₁; arcs = L₁ } =

@@ -6,7 +6,7 @@ use Rattle.runs.proofs.NoOrderingLost.{closure_before}
 use Rattle.runs.proofs.ExactIsReduction.{exact_logs_the_reduction}
 
 -- a pair of the reduction that a closure orders is one of its links
-pub direct_link : (r : Run) (Link : Instr → Instr → Type 0) {x y : Instr} →
+direct_link : (r : Run) (Link : Instr → Instr → Type 0) {x y : Instr} →
     ((u v : Instr) → Closure r Link u v → Before r u v) → Reduced r x y → Closure r Link x y → Link x y
 direct_link r Link f d (program i k c l) = absurd (d.cores c)
 direct_link r Link f d (link i) = i

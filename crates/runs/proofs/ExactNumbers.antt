@@ -1,4 +1,4 @@
--- The meaning of the reducer's numbers is kept from turn to turn.
+-- What the exact reducer's numbers mean is kept from turn to turn.
 use Rattle.std.proofs.Common.{◌≡◌, ℕ, suc, ◌≤◌, true, false, cond, ◌&&◌, eqb, ◌≢◌, ◌⊎◌, ◌↔◌, List, [], ◌∷◌, sym, refl, ap, ◌∙◌, subst, inl, inr, arith}
 use mathlib.Core.Option.{some, none-ne-some}
 use native.Mathlib.Decide.{ℕ_discrete}
@@ -144,7 +144,7 @@ noted_read h j d s m c k a p = go (lr_read j d c k a h p) (cases_Bool (eqb k j &
     go (inr (n, r)) (inr b) = subst Goal (sym (cond-false (eqb k j && eqb c d) _ _ b)) (reads_up h (ev j (read d)) s m c k a r)
 
 -- after the access is noted
-pub noted_inv : (h : Run) (e : Event) (s t : Numbers) → Mid h e s → Noted ◌≡◌ e s t → Inv (e ∷ h) t
+noted_inv : (h : Run) (e : Event) (s t : Numbers) → Mid h e s → Noted ◌≡◌ e s t → Inv (e ∷ h) t
 noted_inv h (ev j local) s t m n = subst (λ z. Inv (ev j local ∷ h) z) (sym n) (record {
   knows = rows h (ev j local) s m;
   writes = writes_up h (ev j local) s m;

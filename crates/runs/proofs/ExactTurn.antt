@@ -1,4 +1,4 @@
--- One turn: what it logs, and what the numbers say after it.
+-- One turn with the exact reducer: it logs the immediate predecessors of other cores, each once, and then the core's row says what precedes it.
 use Rattle.std.proofs.Common.{◌≡◌, ℕ, ◌≤◌, ◌≢◌, ◌⊎◌, ◌↔◌, sym, ap, ◌∙◌, subst, inl, inr}
 use mathlib.Core.Option.{some}
 use Rattle.reducers.specs.Numbers.{Numbers}
@@ -19,7 +19,7 @@ pub record Inv (h : Run) (s : Numbers) : Type 0 where
   pub writes : (c : ℕ) (w : Instr) → last_write h c ≡ some w → Stamps h (s.written c) w
   pub reads : (c k a : ℕ) → latest_read h c k ≡ some a → Stamps h (s.read k c) (record { core = k; count = a })
 
-pub cand_good : (h : Run) (e : Event) (s : Numbers) (y : Candidate) → Inv h s → y.source.core ≢ core_of e → Is h (access_of e) y →
+cand_good : (h : Run) (e : Event) (s : Numbers) (y : Candidate) → Inv h s → y.source.core ≢ core_of e → Is h (access_of e) y →
     Good h (core_of e) (stamp_of s e y) y.source
 cand_good h e s y v n i =
     let m : Met h e y.source = cand_met h e y n i in

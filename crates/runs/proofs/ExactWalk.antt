@@ -1,4 +1,4 @@
--- What one turn's candidates do to the reducer's numbers.
+-- What one turn's candidates make of the exact reducer's numbers, and which of them are logged.
 use Rattle.std.proofs.Common.{◌≡◌, ℕ, ◌≤◌, max, ◌≢◌, ◌⊎◌, ◌↔◌, List, [], ◌∷◌, sym, refl, ap, ◌∙◌, subst, inl, inr, arith}
 use native.Mathlib.Decide.{ℕ_discrete, dec_le}
 use Rattle.reducers.specs.declared.interface.AccessKind.{AccessKind}

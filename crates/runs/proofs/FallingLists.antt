@@ -1,4 +1,4 @@
--- Lists whose keys fall.
+-- Lists whose keys fall are equal where their members are, and what is gathered core by core is such a list of all that there is.
 use Rattle.std.proofs.Common.{◌≡◌, ℕ, zero, suc, ◌<◌, ◌≢◌, ◌⊎◌, List, [], ◌∷◌, sym, refl, ap, ◌∙◌, subst, ap₂, inl, inr, arith}
 use mathlib.Core.Option.{Option, none, some}
 use native.Mathlib.Decide.{dec_lt}

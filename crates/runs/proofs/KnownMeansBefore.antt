@@ -1,4 +1,4 @@
--- What the reducer's known numbers mean.
+-- The exact reducer's known numbers say what is before some instruction of a core.
 use Rattle.std.proofs.Common.{◌≡◌, ℕ, ◌≤◌, [], ◌∷◌, refl, ap, ◌∙◌, subst, inl, inr, arith}
 use Rattle.runs.specs.Runs.{Before, Instr, Run, ev, local}
 use Rattle.runs.specs.Theorems.{KnownMeansBefore}

@@ -1,10 +1,10 @@
 -- In a log the arcs to one target come from the latest position first.
 use Rattle.std.proofs.Common.{◌≡◌, ℕ, ◌<◌, ◌⊎◌, List, [], ◌∷◌, ◌++◌, sym, refl, ap, ◌∙◌, subst, inl, inr, arith}
 use native.Mathlib.Decide.{ℕ_discrete}
-use Rattle.reducers.specs.Numbers.{Numbers}
+use Rattle.reducers.specs.Numbers.{Numbers, Meets}
 use Rattle.runs.specs.Runs.{Event, Run, Instr, choose, next}
 use Rattle.runs.specs.Candidates.{Candidate, candidates}
-use Rattle.runs.specs.Recording.{Arc, arc, In, Meets, Judged, none_left, answers_yes, answers_no, Recording, begin, turn, log}
+use Rattle.runs.specs.Recording.{Arc, arc, In, Judged, none_left, answers_yes, answers_no, Recording, begin, turn, log}
 use Rattle.runs.specs.Positions.{Falls, position}
 use Rattle.runs.specs.Logged.{LatestFirst, TargetsAreLatestFirst}
 use Rattle.runs.proofs.WorkingOrder.{Inside, in_up, in_next, new}

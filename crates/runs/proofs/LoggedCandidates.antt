@@ -4,11 +4,11 @@ use Rattle.std.proofs.lemmas.Bool.{cond-true, cond-false, lt-ltb, le-ltb}
 use Rattle.std.proofs.lemmas.Bool.Decides.{nat_tests}
 use Rattle.reducers.specs.declared.interface.AccessKind.{AccessKind}
 use Rattle.reducers.specs.declared.interface.AccessKind.TheVariants.{Read, Write}
-use Rattle.reducers.specs.Numbers.{Numbers, zeros, stamp, taken}
+use Rattle.reducers.specs.Numbers.{Numbers, Meets, zeros, stamp, taken}
 use Rattle.reducers.specs.Rows.{KnownOnly}
 use Rattle.runs.specs.Runs.{local, read, write, Event, ev, Run, Instr, core_of, access_of, next}
 use Rattle.runs.specs.Candidates.{Candidate, candidates}
-use Rattle.runs.specs.Recording.{Arc, arc, In, place_of, Meets, Judged, none_left, answers_yes, answers_no, Noted, Recording, begin, turn}
+use Rattle.runs.specs.Recording.{Arc, arc, In, place_of, Judged, none_left, answers_yes, answers_no, Noted, Recording, begin, turn}
 use Rattle.runs.specs.Logged.{arcs_from, every_candidate, newer, newer_arcs, every_newer, KeepAllLogsEveryCandidate, PairwiseLogsWhatIsNewer}
 use Rattle.runs.proofs.CandidateLists.{listed_met}
 

@@ -15,7 +15,7 @@ use Rattle.runs.proofs.CandidateLists.{listed, listed_met, in_list}
 use Rattle.runs.proofs.OrderAsClosure.{before_to, has_up, has_new, has_placed, conflict_up, conflict_new}
 use Rattle.runs.proofs.BoundedWalk.{Sub, Below, Ordered, ordered_upto, Judges, judges, new_arc}
 
-pub reach_up : (e : Event) (h : Run) (L M : List Arc) {x y : Instr} → Sub L M → Reach h L x y → Reach (e ∷ h) M x y
+reach_up : (e : Event) (h : Run) (L M : List Arc) {x y : Instr} → Sub L M → Reach h L x y → Reach (e ∷ h) M x y
 reach_up e h L M s (program {x = x} {y = y} i k c l) = program (has_up e h x i) (has_up e h y k) c l
 reach_up e h L M s (link {x = x} {y = y} i) = link (s (arc x y) i)
 reach_up e h L M s (chain p q) = chain (reach_up e h L M s p) (reach_up e h L M s q)

@@ -1,4 +1,4 @@
--- Coarser places keep the order of the cells.
+-- Conflicts at places, whatever the place of each cell, keep at least the order of conflicts at cells.
 use Rattle.std.proofs.Common.{◌≡◌, ℕ, suc, ◌≤◌, List, [], ◌∷◌, sym, refl, ap, ◌∙◌, subst, inl, inr}
 use Rattle.cores.specs.declared.interface.Request.{Request}
 use Rattle.cores.specs.declared.interface.Request.TheVariants.{Halt, Local, Read, Write, Exchange}

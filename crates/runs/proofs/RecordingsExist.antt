@@ -2,11 +2,12 @@
 use Rattle.std.proofs.Common.{◌≡◌, Bool, true, false, cond, leb, List, [], ◌∷◌, sym, refl, subst, arith}
 use Rattle.std.proofs.lemmas.Bool.{leb-true, leb-false}
 use Rattle.reducers.specs.declared.interface.AccessKind.TheVariants.{Read, Write}
-use Rattle.reducers.specs.Numbers.{Numbers, zeros, ◌⊑◌}
+use Rattle.reducers.specs.Numbers.{Numbers, Meets, zeros, ◌⊑◌}
 use Rattle.runs.specs.Runs.{local, read, write, Event, ev, Run, Instr, core_of, access_of, next}
 use Rattle.runs.specs.Candidates.{Candidate, candidates}
-use Rattle.runs.specs.Recording.{Arc, arc, place_of, Meets, Judged, none_left, answers_yes, answers_no, Noted, Recording, begin, turn}
-use Rattle.runs.specs.Reducers.{Reducer, Keeps, Recorded, judge, after_note, recorded, known_only}
+use Rattle.runs.specs.Recording.{Arc, arc, place_of, Judged, none_left, answers_yes, answers_no, Noted, Recording, begin, turn}
+use Rattle.reducers.specs.Rows.{known_only}
+use Rattle.runs.specs.Reducers.{Reducer, Keeps, Recorded, judge, after_note, recorded}
 use Rattle.runs.specs.Theorems.{RecordingsExist, ThreeReducersAreBounded}
 
 split : (b : Bool) (P : Bool → Type 0) → (b ≡ true → P true) → (b ≡ false → P false) → P b

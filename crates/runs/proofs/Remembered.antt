@@ -37,7 +37,7 @@ pub record Split (h : Run) (e : Event) (x : Instr) : Type 0 where
   pub dep : Dep event e
   pub upto : Upto h x inst
 
-pub upto_up : (e : Event) (h : Run) (x y : Instr) → Upto h x y → Upto (e ∷ h) x y
+upto_up : (e : Event) (h : Run) (x y : Instr) → Upto h x y → Upto (e ∷ h) x y
 upto_up e h x y (inl q) = inl q
 upto_up e h x y (inr b) = inr (inl b)
 

@@ -1,4 +1,4 @@
--- When a core waits.
+-- A core waits exactly while the source of an arc to its next instruction is not done, so its own log is enough to tell.
 use Rattle.std.proofs.Common.{◌≡◌, ℕ, suc, ◌≤◌, Bool, true, false, cond, ◌&&◌, ◌↔◌, List, [], ◌∷◌, get_or, sym, refl, ap}
 use mathlib.Core.Option.{none, some, none-ne-some}
 use Rattle.std.proofs.lemmas.Bool.{both_ways}

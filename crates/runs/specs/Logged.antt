@@ -1,11 +1,15 @@
--- What the keep-all and the pairwise reducer log, as lists, and the order of the arcs to one target.
-use Rattle.std.specs.Prelude.{◌≡◌, ℕ, ◌<◌, Bool, true, cond, ◌&&◌, List, [], ◌∷◌, ◌==◌, nat_lt}
-use Rattle.reducers.specs.Numbers.{Numbers, zeros}
+-- What each reducer logs: the reduction, or lists of candidates; and the order of the arcs to one target.
+use Rattle.std.specs.Prelude.{◌≡◌, ℕ, ◌<◌, Bool, true, cond, ◌&&◌, ◌↔◌, List, [], ◌∷◌, ◌==◌, nat_lt}
+use Rattle.reducers.specs.Numbers.{Numbers, Meets, zeros}
 use Rattle.reducers.specs.Rows.{KnownOnly}
-use Rattle.runs.specs.Runs.{Run, Instr, next}
+use Rattle.runs.specs.Runs.{Run, Instr, next, Reduced}
 use Rattle.runs.specs.Candidates.{Candidate, candidates}
-use Rattle.runs.specs.Recording.{Arc, arc, In, Meets, Recording, log}
-use Rattle.runs.specs.Positions.{position}
+use Rattle.runs.specs.Recording.{Arc, arc, In, Recording, log}
+use Rattle.runs.specs.Positions.{position, Once}
+
+-- The arcs are exactly the reduction between cores of a run, each once.
+abbrev pub ReductionLogged : Run → List Arc → Type 0
+ReductionLogged r L = ((x y : Instr) → In (arc x y) L ↔ Reduced r x y) × Once L
 
 -- The arcs to instruction y from candidates in their order, in front of those logged before, the newest first.
 abbrev pub arcs_from : Instr → List Candidate → List Arc → List Arc

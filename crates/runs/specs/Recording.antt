@@ -1,7 +1,7 @@
 -- Recordings of a run, with any reducer that keeps to its bounds.
 use Rattle.std.specs.Prelude.{◌≡◌, ℕ, ◌<◌, ◌≤◌, ◌⊎◌, List, [], ◌∷◌, ◌++◌}
 use Rattle.reducers.specs.declared.interface.AccessKind.TheVariants.{Read, Write}
-use Rattle.reducers.specs.Numbers.{Numbers, zeros, taken, noted}
+use Rattle.reducers.specs.Numbers.{Numbers, Meets, zeros, taken, noted}
 use Rattle.runs.specs.Runs.{Access, local, read, write, Event, ev, Run, Instr, core_of, access_of, if_same, next, Closure}
 use Rattle.runs.specs.Candidates.{Candidate, candidates}
 
@@ -25,10 +25,6 @@ abbrev pub place_of : Access → ℕ
 place_of local = 0
 place_of (read c) = c
 place_of (write c) = c
-
--- How a reducer's numbers stand to their bounds: `≡` for the exact reducer, `⊑` for any.
-abbrev pub Meets : Type 1
-Meets = Numbers → Numbers → Type 0
 
 -- The candidates of e, which is instruction y, are gone through: each is known already, or its arc is logged and taken.
 pub data Judged (meets : Meets) (e : Event) (y : Instr) : List Candidate → Numbers → List Arc → Numbers → List Arc → Type 0 where

@@ -2,10 +2,11 @@
 use Rattle.std.specs.Prelude.{◌≡◌, ℕ, cond, List, [], ◌∷◌, nat_le}
 use Rattle.reducers.specs.declared.interface.AccessKind.{AccessKind}
 use Rattle.reducers.specs.declared.interface.AccessKind.TheVariants.{Read, Write}
-use Rattle.reducers.specs.Numbers.{Numbers, zeros, taken, noted}
+use Rattle.reducers.specs.Numbers.{Numbers, Meets, zeros, taken, noted}
+use Rattle.reducers.specs.Rows.{known_only}
 use Rattle.runs.specs.Runs.{local, read, write, Event, ev, Run, Instr, core_of, access_of, next}
 use Rattle.runs.specs.Candidates.{Candidate, candidates}
-use Rattle.runs.specs.Recording.{Arc, arc, place_of, Meets}
+use Rattle.runs.specs.Recording.{Arc, arc, place_of}
 
 pub record Reducer : Type 0 where
   pub take : Numbers → ℕ → ℕ → ℕ → AccessKind → ℕ → Numbers
@@ -41,10 +42,6 @@ recorded R (e ∷ h) =
 
 abbrev pub exact : Reducer
 exact = record { take = taken; note = noted }
-
--- the same known numbers as the bound, and no stamp
-abbrev pub known_only : Numbers → Numbers
-known_only b = record { known = b.known; written = zeros.written; read = zeros.read }
 
 abbrev pub pairwise : Reducer
 pairwise = record { take = λ n i a c w j. known_only (taken n i a c w j); note = λ n j c w. known_only (noted n j c w) }

@@ -3,13 +3,14 @@
 use Rattle.std.specs.Prelude.{◌≡◌, ℕ, suc, ◌+◌, ◌<◌, ◌≤◌, true, ◌≢◌, ◌↔◌, List, [], ◌∷◌, length, slice_index}
 use Rattle.std.proofs.Math.Option.{none}
 use Rattle.cores.specs.Memory.{Rules, Memory, start, plain, Accepted}
-use Rattle.reducers.specs.Numbers.{Numbers, zeros, ◌⊑◌}
+use Rattle.reducers.specs.Numbers.{Numbers, Meets, zeros, ◌⊑◌}
 use Rattle.reducers.specs.Rows.{KnownOnly}
-use Rattle.runs.specs.Runs.{Event, Run, Instr, core_of, done, next, Has, Conflict, Before, Reduced}
+use Rattle.runs.specs.Runs.{Event, Run, Instr, core_of, done, next, Has, Conflict, Before}
 use Rattle.runs.specs.Candidates.{Candidate, candidate, candidates}
-use Rattle.runs.specs.Recording.{Arc, arc, In, Reach, Meets, Judged, Recording, log}
+use Rattle.runs.specs.Recording.{Arc, In, Reach, Judged, Recording, log}
+use Rattle.runs.specs.Logged.{ReductionLogged}
 use Rattle.runs.specs.Reducers.{Reducer, Keeps, recorded, exact, pairwise, keep_all, Pairwise, Nothing}
-use Rattle.runs.specs.Positions.{Once, position, Newest, gather}
+use Rattle.runs.specs.Positions.{position, Newest, gather}
 use Rattle.runs.specs.PlainRun.{run}
 use Rattle.runs.specs.Replay.{free, waiting, Suffices, Replays}
 
@@ -42,9 +43,7 @@ LogsFew meets =
 
 -- With the exact reducer the logged arcs are exactly the reduction between cores, each once.
 abbrev pub ExactLogsTheReduction : Type 0
-ExactLogsTheReduction =
-    (r : Run) (N : Numbers) (L : List Arc) → Recording ◌≡◌ r N L →
-    ((x y : Instr) → In (arc x y) L ↔ Reduced r x y) × Once L
+ExactLogsTheReduction = (r : Run) (N : Numbers) (L : List Arc) → Recording ◌≡◌ r N L → ReductionLogged r L
 
 -- known j i of the exact reducer is the largest count of core i before some instruction of core j, or 0.
 abbrev pub KnownMeansBefore : Type 0

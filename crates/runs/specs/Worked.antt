@@ -2,7 +2,7 @@
 use Rattle.std.specs.Prelude.{◌≡◌, ℕ, max, cond, List, [], ◌∷◌, ◌==◌, slice_index_or}
 use Rattle.std.proofs.Math.Option.{some}
 use Rattle.cores.specs.Script.{script_next, script_after}
-use Rattle.cores.specs.Memory.{Rules, Memory, start, plain, Accepted}
+use Rattle.cores.specs.Memory.{Rules, rules, Memory, start, plain, Accepted}
 use Rattle.reducers.specs.Numbers.{◌⊑◌, noted}
 use Rattle.runs.specs.Runs.{read, write, ev, Run, Instr, Conflict}
 use Rattle.runs.specs.Recording.{arc, Reach}
@@ -40,7 +40,7 @@ LoggedArcs =
 
 -- the rules of script cores over a text
 abbrev pub script : List ℕ → Rules
-script text = record { next = script_next text; after = script_after text }
+script text = rules script_next script_after text
 
 abbrev pub first_text : List ℕ
 first_text =

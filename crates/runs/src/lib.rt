@@ -2,7 +2,7 @@
 #![tactic(auto)]
 
 ghost use Rattle.std.specs.Prelude.{◌≡◌, ℕ, List};
-ghost use Rattle.cores.specs.Memory.{Rules};
+ghost use Rattle.cores.specs.Memory.{Rules, rules};
 ghost use Rattle.reducers.specs.Numbers.{◌⊑◌};
 ghost use Rattle.runs.specs.Theorems.{NoOrderingLost, LogsAreLawful, LogsFew, ExactLogsTheReduction, KnownMeansBefore, ExactIsLeast, DroppingLosesAnOrdering, CountsAgree, ReplayAgrees, ReplayOfARecordingAgrees, RecordingsExist, ThreeReducersAreBounded, ThreeReducersAreDecided, WaitsForSources, OwnLogIsEnough, PlacesKeepTheOrder, NewestFirst, CandidatesByCores};
 ghost use Rattle.runs.specs.Logged.{KeepAllLogsEveryCandidate, PairwiseLogsWhatIsNewer, TargetsAreLatestFirst};
@@ -68,7 +68,7 @@ pub fn replay_of_a_recording_agrees()
 
 // The same with cores and a reducer of any type.
 pub fn recordings_replay<K: Core, R: Reducer>()
-    ensures { (text : List ℕ) → ReplayOfARecordingAgrees R.Reducer.meets (record { next = K.Core.next text; after = K.Core.after text }) }
+    ensures { (text : List ℕ) → ReplayOfARecordingAgrees R.Reducer.meets (rules K.Core.next K.Core.after text) }
 {}
 
 // Whatever the run and the reducer, there is a recording; with the exact reducer too.

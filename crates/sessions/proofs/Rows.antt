@@ -1,4 +1,4 @@
--- Turns in a row, one by one, with the answers as they are put down.
+-- The turns taken so far, with the answers kept of them, are turns in a row.
 use Rattle.std.proofs.Common.{◌≡◌, ℕ, ◌+◌, ◌<◌, List, [], ◌∷◌, ◌++◌, map, reverse, length, get_or, take, Result, sym, ap, ◌∙◌, subst}
 use Rattle.std.proofs.lemmas.List.{take_more, reverse-append, map-append}
 use Rattle.cores.specs.Memory.{Rules}
@@ -6,7 +6,7 @@ use Rattle.recorder.specs.Turns.{World, answered, said, Turned}
 use Rattle.recorder.specs.declared.recording.Recorded.{Recorded}
 use Rattle.recorder.specs.declared.rules.Refusal.{Refusal}
 use Rattle.recordings.specs.ByTheRules.{InARow, none, then}
-use Rattle.runs.specs.Recording.{Meets}
+use Rattle.reducers.specs.Numbers.{Meets}
 
 module _ (meets : Meets) (K : Rules) (w : World) where
   abbrev Row : List ℕ → List (Result Recorded Refusal) → World → Type 0

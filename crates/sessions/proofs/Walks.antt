@@ -1,4 +1,4 @@
--- Steps one by one, with the answers as they are put down.
+-- The steps taken so far, with the answers kept of them, are the first of all steps.
 use Rattle.std.proofs.Common.{◌≡◌, ℕ, ◌+◌, ◌<◌, List, [], ◌∷◌, ◌++◌, map, length, get_or, drop, Result, sym, ap, ◌∙◌, add-one, drop-cons}
 use Rattle.std.proofs.lemmas.List.{map-append, append_assoc}
 use Rattle.cores.specs.declared.interface.Request.{Request}

@@ -3,7 +3,8 @@ use Rattle.std.proofs.Common.{◌≡◌, ℕ, ◌+◌, ◌-◌, ◌<◌, ◌≤�
 use Rattle.std.proofs.lemmas.List.{take_all, length-take-le, take-append-drop}
 use Rattle.std.proofs.lemmas.Bool.{and_parts, and_from, leb-true, le-leb}
 use Rattle.std.specs.List.{AllByRecursion}
-use Rattle.cores.specs.Memory.{Rules, Memory, plain, start}
+use Rattle.cores.proofs.Storing.{cells_size, states_size}
+use Rattle.cores.specs.Memory.{Rules, rules, Memory, plain, start}
 use Rattle.cores.specs.declared.interface.Request.{Request}
 use Rattle.lawful_logs.proofs.Orderly.{traces_are_orderly, new_is_orderly}
 use Rattle.lawful_logs.specs.Orderly.{Orderly}
@@ -12,26 +13,24 @@ use Rattle.records.specs.Settings.{fits, settled, no_sizes}
 use Rattle.records.specs.declared.settings.Sizes.{Sizes}
 use Rattle.recorded_logs.specs.Held.{surplus}
 use Rattle.recorder.specs.Turns.{Tape, World, world, fresh_tape, headed_from, new_arcs, asks}
-use Rattle.recordings.proofs.ByTheRules.{rows_have_accounts}
-use Rattle.recordings.proofs.Tracking.{cells_size, states_size}
-use Rattle.recordings.specs.ByTheRules.{Account, ByTheRules, InARow, none, then, calls_with, trace_with}
+use Rattle.recordings.proofs.ByTheRules.{Account, calls_with, trace_with, rows_have_accounts}
+use Rattle.recordings.specs.ByTheRules.{ByTheRules, InARow, none, then}
 use Rattle.recordings.specs.Sessions as recorded
 use Rattle.recordings.specs.Tracks.{run_of, Tracks}
-use Rattle.replayer.specs.Memories.{rules_of, walked}
+use Rattle.replayer.specs.Memories.{walked}
 use Rattle.replayer.specs.Runs.{Session, one}
 use Rattle.replayer.specs.Steps.{Outcome, started}
-use Rattle.replays.proofs.Promise.{replay_agrees_over, logs_hold}
-use Rattle.replays.specs.Opening.{Again}
-use Rattle.replays.specs.Promise.{New, ReplayAgrees, LogsHold}
+use Rattle.replays.proofs.Promise.{replays_as_recorded, logs_hold}
+use Rattle.replays.specs.Promise.{NewRecorder, SameStart, ReplaysAsRecorded, LogsHold}
 use Rattle.replays.specs.Replies.{steps_said, carried_out}
-use Rattle.reducers.specs.Numbers.{zeros}
+use Rattle.reducers.specs.Numbers.{Meets, zeros}
 use Rattle.reducers.specs.Rows.{KnownOnly}
 use Rattle.runs.proofs.AnyReducer.{replay_agrees_with}
 use Rattle.runs.proofs.ExactIsReduction.{exact_logs_the_reduction}
 use Rattle.runs.proofs.LatestFirst.{targets_are_latest_first}
 use Rattle.runs.proofs.LoggedCandidates.{keep_all_logs_every_candidate, pairwise_logs_what_is_newer}
 use Rattle.runs.proofs.RecordingsExist.{weakened}
-use Rattle.runs.specs.Recording.{Arc, Meets}
+use Rattle.runs.specs.Recording.{Arc}
 use Rattle.runs.specs.Theorems.{Bounded}
 use Rattle.traces.proofs.Recordings.{begun_done, traces_are_faithful, new_is_faithful}
 use Rattle.traces.specs.Recording as traced
@@ -68,14 +67,14 @@ all_of n xs a e h q =
     sym (take_all n xs (omega (arith, l, q))) ∙ e
 
 module _ (meets : Meets) (bounded : Bounded meets) (next : List ℕ → List ℕ → Request) (after : List ℕ → List ℕ → ℕ → List ℕ) (text : List ℕ) (z : Sizes)
-    (w v : World) (new : New w) (turns steps : List ℕ) (says : List (List ℕ))
+    (w v : World) (new : NewRecorder w) (turns steps : List ℕ) (says : List (List ℕ))
     (ok : settled z (length w.states) (length w.cells) (length w.tape.store) ≡ true)
     (room : length (headed_from z z.cores 0 w.tape.store) ≡ length w.tape.store)
-    (row : InARow meets (rules_of next after text) (world (fresh_tape z (headed_from z z.cores 0 w.tape.store)) w.cells w.states) (reverse turns) (reverse says) v)
+    (row : InARow meets (rules next after text) (world (fresh_tape z (headed_from z z.cores 0 w.tape.store)) w.cells w.states) (reverse turns) (reverse says) v)
     (octets : AllByRecursion (λ b. b < 256) v.tape.store)
     (beyond_cells : drop z.cells v.cells ≡ drop z.cells w.cells) (beyond_states : drop z.cores v.states ≡ drop z.cores w.states) where
   abbrev K : Rules
-  K = rules_of next after text
+  K = rules next after text
 
   abbrev begun_world : World
   begun_world = world (fresh_tape z (headed_from z z.cores 0 w.tape.store)) w.cells w.states
@@ -148,7 +147,7 @@ module _ (meets : Meets) (bounded : Bounded meets) (next : List ℕ → List ℕ
   many : (length states₁ ≡ z.cores) × (length cells₁ ≡ z.cells)
   many = (length-take-le z.cores w.states enough.0, length-take-le z.cells w.cells enough.1)
 
-  again : Again z own store store cells₁ states₁
+  again : SameStart z own store store cells₁ states₁
   again = record {
     same_cells = take_all z.cells cells₁ (omega (arith, many.1));
     same_states = take_all z.cores states₁ (omega (arith, many.0));
@@ -158,10 +157,10 @@ module _ (meets : Meets) (bounded : Bounded meets) (next : List ℕ → List ℕ
         (and_from (leb z.cores (length states₁)) (leb z.cells (length cells₁)) (le-leb z.cores (length states₁) (omega (arith, many.0))) (le-leb z.cells (length cells₁) (omega (arith, many.1))));
   }
 
-  replay : ReplayAgrees next after text z own L (started no_sizes no_counts) store cells₁ states₁
+  replay : ReplaysAsRecorded next after text z own L (started no_sizes no_counts) store cells₁ states₁
   replay =
-      subst (λ y. Again y own store store cells₁ states₁ → ReplayAgrees next after text y own L (started no_sizes no_counts) store cells₁ states₁) sizes
-      (replay_agrees_over meets bounded next after text v recording own faithful orderly kept (started no_sizes no_counts) store cells₁ states₁) again
+      subst (λ y. SameStart y own store store cells₁ states₁ → ReplaysAsRecorded next after text y own L (started no_sizes no_counts) store cells₁ states₁) sizes
+      (replays_as_recorded meets bounded next after text v recording own faithful orderly kept (started no_sizes no_counts) store cells₁ states₁) again
 
   -- how the run behind the steps ends
   abbrev run : Outcome
@@ -193,25 +192,31 @@ module _ (meets : Meets) (bounded : Bounded meets) (next : List ℕ → List ℕ
       a.ended ≡ run.says → a.cells ≡ run.cells → a.states ≡ run.states → length a.cells ≡ length cells₁ → length a.states ≡ length states₁ →
       Whole meets K z turns steps (buffers w.cells w.states w.tape.store) (buffers v.cells v.states store) a
   whole a turned opened replied ended cells states cells_long states_long =
-      let logged = logs_hold meets bounded next after text v recording own faithful orderly kept in
+      let logs = logs_hold meets bounded next after text v recording own faithful orderly kept in
       record {
-        accepted = u;
-        numbers = v.tape.numbers;
-        arcs = L;
-        recorded = subst (λ ss. ByTheRules meets K z m (reverse turns) (reverse ss) u v.tape.numbers L) (sym turned) account.rules;
-        cells = parts z.cells v.cells last.cells _ account.tracks.cells beyond_cells;
-        states = parts z.cores v.states last.states _ account.tracks.states beyond_states;
-        logs = subst (λ old. LogsHold z old store last.counts L) old_is (subst (λ y. LogsHold y recording.old store last.counts L) sizes logged);
-        surplus = subst (λ old. surplus z store ≡ surplus z old) old_is (subst (λ y. surplus y store ≡ surplus y recording.old) sizes faithful.behind);
-        latest_first = targets_are_latest_first meets (run_of K m u) v.tape.numbers L account.tracks.recording;
-        exact = λ h. exact_logs_the_reduction (run_of K m u) v.tape.numbers L (weakened meets ◌≡◌ h account.tracks.recording);
-        keep_all = λ h. keep_all_logs_every_candidate (run_of K m u) v.tape.numbers L (weakened meets (λ n _. n ≡ zeros) h account.tracks.recording);
-        pairwise = λ h. pairwise_logs_what_is_newer (run_of K m u) v.tape.numbers L (weakened meets KnownOnly h account.tracks.recording);
-        opens = opened ∙ replay.opens;
-        replied = replied ∙ replay.replied steps;
-        never_stuck = replay.never_stuck;
-        replays = replay_agrees_with meets bounded K (λ c. c) cells₁ states₁ u account.tracks.accepted v.tape.numbers L account.tracks.recording;
-        finishes = ended ∙ finish.0 ∙ ap (λ l. 0 ∷ (length u - carried_out l) ∷ []) (sym replied);
-        last_cells = cells ∙ finish.1 (ap length (sym cells) ∙ cells_long);
-        last_states = states ∙ finish.2 (ap length (sym states) ∙ states_long);
+        recorded = record {
+          accepted = u;
+          numbers = v.tape.numbers;
+          arcs = L;
+          rules = subst (λ ss. ByTheRules meets K z m (reverse turns) (reverse ss) u v.tape.numbers L) (sym turned) account.rules;
+          cells = parts z.cells v.cells last.cells _ account.tracks.cells beyond_cells;
+          states = parts z.cores v.states last.states _ account.tracks.states beyond_states;
+          logs = subst (λ old. LogsHold z old store last.counts L) old_is (subst (λ y. LogsHold y recording.old store last.counts L) sizes logs);
+          surplus = subst (λ old. surplus z store ≡ surplus z old) old_is (subst (λ y. surplus y store ≡ surplus y recording.old) sizes faithful.behind);
+        };
+        logged = record {
+          latest_first = targets_are_latest_first meets (run_of K m u) v.tape.numbers L account.tracks.recording;
+          exact = λ h. exact_logs_the_reduction (run_of K m u) v.tape.numbers L (weakened meets ◌≡◌ h account.tracks.recording);
+          keep_all = λ h. keep_all_logs_every_candidate (run_of K m u) v.tape.numbers L (weakened meets (λ n _. n ≡ zeros) h account.tracks.recording);
+          pairwise = λ h. pairwise_logs_what_is_newer (run_of K m u) v.tape.numbers L (weakened meets KnownOnly h account.tracks.recording);
+        };
+        replayed = record {
+          opens = opened ∙ replay.opens;
+          replied = replied ∙ replay.replied steps;
+          never_stuck = replay.never_stuck;
+          replays = replay_agrees_with meets bounded K (λ c. c) cells₁ states₁ u account.tracks.accepted v.tape.numbers L account.tracks.recording;
+          finishes = ended ∙ finish.0 ∙ ap (λ l. 0 ∷ (length u - carried_out l) ∷ []) (sym replied);
+          last_cells = cells ∙ finish.1 (ap length (sym cells) ∙ cells_long);
+          last_states = states ∙ finish.2 (ap length (sym states) ∙ states_long);
+        };
       }

@@ -7,11 +7,7 @@ use Rattle.records.specs.declared.settings.Sizes.{Sizes}
 use Rattle.replayer.specs.Memories.{walked}
 use Rattle.replayer.specs.Runs.{Session, session, ran}
 use Rattle.replayer.specs.Steps.{Opened, Outcome, started, reopened}
-use Rattle.replays.specs.Calls.{Stage, stage}
 use Rattle.replays.specs.Replies.{steps_said}
-
-abbrev pub stage_of : Session → Stage
-stage_of s = stage s.replayer s.cells s.states
 
 -- what opening leaves of a new replayer
 abbrev pub first_opening : Sizes → List ℕ → List (List ℕ) → List ℕ → Opened

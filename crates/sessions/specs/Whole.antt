@@ -1,5 +1,5 @@
 -- A whole session: what its turns recorded, and how the replay of what they recorded went.
-use Rattle.std.specs.Prelude.{◌≡◌, ℕ, ◌-◌, ◌*◌, Bool, true, false, ◌↔◌, List, [], ◌∷◌, ◌++◌, map, reverse, length, take, drop, Ok, Err, vec_items, Result}
+use Rattle.std.specs.Prelude.{◌≡◌, ℕ, ◌-◌, ◌*◌, Bool, true, false, List, [], ◌∷◌, ◌++◌, map, reverse, length, take, drop, Ok, Err, vec_items, Result}
 use Rattle.cores.specs.Memory.{Rules, Memory, start, plain, outcomes}
 use Rattle.logs.specs.Session.{done_as}
 use Rattle.records.specs.Settings.{settled}
@@ -8,16 +8,15 @@ use Rattle.recorder.specs.Refusals.{number_of}
 use Rattle.recorder.specs.Turns.{said}
 use Rattle.recordings.specs.ByTheRules.{ByTheRules}
 use Rattle.recordings.specs.Tracks.{run_of}
-use Rattle.reducers.specs.Numbers.{Numbers, zeros}
+use Rattle.reducers.specs.Numbers.{Numbers, Meets, zeros}
 use Rattle.reducers.specs.Rows.{KnownOnly}
 use Rattle.replayer.specs.Answers.{step_numbers, run_numbers}
 use Rattle.replays.specs.Promise.{LogsHold}
 use Rattle.replays.specs.Replies.{replies, carried_out, NeverStuck}
-use Rattle.runs.specs.Logged.{every_candidate, every_newer, LatestFirst}
-use Rattle.runs.specs.Positions.{Once}
-use Rattle.runs.specs.Recording.{Arc, arc, In, log, Meets}
+use Rattle.runs.specs.Logged.{ReductionLogged, every_candidate, every_newer, LatestFirst}
+use Rattle.runs.specs.Recording.{Arc, log}
 use Rattle.runs.specs.Replay.{Replays}
-use Rattle.runs.specs.Runs.{Instr, Run, Reduced}
+use Rattle.runs.specs.Runs.{Run}
 use Rattle.sessions.specs.declared.session.Session.{Session}
 use Rattle.sessions.specs.declared.session.SessionError.{SessionError}
 use Rattle.sessions.specs.declared.session.SessionError.TheVariants.{Refused, NoMemory}
@@ -57,38 +56,46 @@ answers_of state s = record {
   states = map state (vec_items s.cores);
 }
 
--- the arcs are exactly the reduction between cores of a run, each once
-abbrev pub ReductionLogged : Run → List Arc → Type 0
-ReductionLogged r arcs = ((x y : Instr) → In (arc x y) arcs ↔ Reduced r x y) × Once arcs
-
--- a session of these turns and steps, with buffers before and later
-pub record Whole (meets : Meets) (K : Rules) (z : Sizes) (turns steps : List ℕ) (before later : Buffers) (a : Answers) : Type 0 where
-  -- recording: each turn was refused, or answered and logged its arcs, by the rules over the plain memory; of these the accepted ones, and all arcs, are the newest first
+-- the turns, recorded from the plain memory m on, with what each says, and with buffers before and later
+pub record TurnsRecorded (meets : Meets) (K : Rules) (z : Sizes) (m : Memory) (turns : List ℕ) (says : List (List ℕ)) (before later : Buffers) : Type 0 where
+  -- each turn was refused, or answered and logged its arcs, by the rules over the plain memory; of these the accepted ones, and all arcs, are the newest first
   pub accepted : List ℕ
   pub numbers : Numbers
   pub arcs : List Arc
-  pub recorded : ByTheRules meets K z (first_memory z before) (reverse turns) (reverse a.turns) accepted numbers arcs
-  -- the session's cells and states are the plain memory's, each log has exactly the arcs to its core in their order, and nothing else changed
-  pub cells : later.cells ≡ (plain K (first_memory z before) accepted).cells ++ drop z.cells before.cells
-  pub states : later.states ≡ (plain K (first_memory z before) accepted).states ++ drop z.cores before.states
-  pub logs : LogsHold z before.store later.store (plain K (first_memory z before) accepted).counts arcs
+  pub rules : ByTheRules meets K z m (reverse turns) (reverse says) accepted numbers arcs
+  -- cells and states are the plain memory's, each log has exactly the arcs to its core in their order, and nothing else changed
+  pub cells : later.cells ≡ (plain K m accepted).cells ++ drop z.cells before.cells
+  pub states : later.states ≡ (plain K m accepted).states ++ drop z.cores before.states
+  pub logs : LogsHold z before.store later.store (plain K m accepted).counts arcs
   pub surplus : drop (z.cores * z.log_bytes) later.store ≡ drop (z.cores * z.log_bytes) before.store
-  -- which arcs: within one target the latest position first; and by how the reducer meets its bounds,
-  -- with equality (exact) just the transitive reduction between cores of the run, each arc once;
-  -- with 0 (keep-all) every candidate; with known numbers alone (pairwise) every candidate whose count is above every source count logged from its core to this one
-  pub latest_first : (k : ℕ) → LatestFirst (run_of K (first_memory z before) accepted) (log k arcs)
-  pub exact : ((n b : Numbers) → meets n b → n ≡ b) → ReductionLogged (run_of K (first_memory z before) accepted) arcs
-  pub keep_all : ((n b : Numbers) → meets n b → n ≡ zeros) → arcs ≡ every_candidate (run_of K (first_memory z before) accepted)
-  pub pairwise : ((n b : Numbers) → meets n b → KnownOnly n b) → arcs ≡ every_newer (run_of K (first_memory z before) accepted)
-  -- replay: opening accepts the logs, and each step answers by the plain memory's instructions and the arcs
+
+-- which arcs of a run were logged: to one target from the latest position on, and by how the reducer meets its bounds
+pub record ArcsLogged (meets : Meets) (r : Run) (arcs : List Arc) : Type 0 where
+  pub latest_first : (k : ℕ) → LatestFirst r (log k arcs)
+  -- with equality (exact): just the transitive reduction between cores of the run, each arc once
+  pub exact : ((n b : Numbers) → meets n b → n ≡ b) → ReductionLogged r arcs
+  -- with 0 (keep-all): every candidate
+  pub keep_all : ((n b : Numbers) → meets n b → n ≡ zeros) → arcs ≡ every_candidate r
+  -- with known numbers alone (pairwise): every candidate whose count is above every source count logged from its core to this one
+  pub pairwise : ((n b : Numbers) → meets n b → KnownOnly n b) → arcs ≡ every_newer r
+
+-- the replay, from the plain memory m on, of the accepted turns and their arcs: opened, stepped, and run to its end
+pub record RecordingReplayed (K : Rules) (z : Sizes) (m : Memory) (accepted : List ℕ) (arcs : List Arc) (steps : List ℕ) (a : Answers) : Type 0 where
+  -- opening accepts the logs, and each step answers by the plain memory's instructions and the arcs
   pub opens : a.opened ≡ 0 ∷ []
-  pub replied : a.steps ≡ replies z.cores (outcomes K (first_memory z before) accepted) (plain K (first_memory z before) accepted).counts arcs (first_memory z before).counts steps
-  pub never_stuck : NeverStuck z.cores (outcomes K (first_memory z before) accepted) (plain K (first_memory z before) accepted).counts arcs (first_memory z before).counts
-  pub replays : Replays K (first_memory z before) accepted arcs
+  pub replied : a.steps ≡ replies z.cores (outcomes K m accepted) (plain K m accepted).counts arcs m.counts steps
+  pub never_stuck : NeverStuck z.cores (outcomes K m accepted) (plain K m accepted).counts arcs m.counts
+  pub replays : Replays K m accepted arcs
   -- the run finishes with all that was left, and then cells and states are the plain memory's
   pub finishes : a.ended ≡ 0 ∷ (length accepted - carried_out a.steps) ∷ []
-  pub last_cells : a.cells ≡ (plain K (first_memory z before) accepted).cells
-  pub last_states : a.states ≡ (plain K (first_memory z before) accepted).states
+  pub last_cells : a.cells ≡ (plain K m accepted).cells
+  pub last_states : a.states ≡ (plain K m accepted).states
+
+-- a session of these turns and steps, with buffers before and later: recorded, and replayed
+pub record Whole (meets : Meets) (K : Rules) (z : Sizes) (turns steps : List ℕ) (before later : Buffers) (a : Answers) : Type 0 where
+  pub recorded : TurnsRecorded meets K z (first_memory z before) turns a.turns before later
+  pub logged : ArcsLogged meets (run_of K (first_memory z before) recorded.accepted) recorded.arcs
+  pub replayed : RecordingReplayed K z (first_memory z before) recorded.accepted recorded.arcs steps a
 
 -- every outcome: a whole session exactly if the sizes fit and memory was not wanting; else bad setting (8) or want of memory, with nothing changed
 abbrev pub ComesTo : {K : Type 0} → (K → List ℕ) → Meets → Rules → Sizes → List ℕ → List ℕ → Buffers → Buffers → Result (Session K) SessionError → Type 0

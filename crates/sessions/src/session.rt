@@ -1,8 +1,9 @@
-ghost use Rattle.std.specs.Prelude.{◌≡◌, ◌<◌, ◌≤◌, true, [], map, reverse, length, IfOk, vec_capacity};
+ghost use Rattle.std.specs.Prelude.{◌≡◌, ◌<◌, ◌≤◌, [], map, reverse, length, IfOk, vec_capacity};
 ghost use Rattle.std.specs.List.{AllByRecursion};
+ghost use Rattle.cores.specs.Memory.{rules};
 ghost use Rattle.records.specs.Settings.{SurplusKept};
 ghost use Rattle.logs.specs.Session.{done_as};
-ghost use Rattle.recorder.specs.Turns.{rules, scene, said};
+ghost use Rattle.recorder.specs.Turns.{scene, said};
 ghost use Rattle.recordings.specs.ByTheRules.{InARow};
 ghost use Rattle.replayer.specs.Answers.{step_numbers, run_numbers};
 ghost use Rattle.sessions.specs.declared.session.SessionError.TheVariants.{Refused, NoMemory};

@@ -10,10 +10,11 @@ use Rattle.recorder.specs.Turns.{Tape, World, world, asks, Answered, Begun, begu
 use Rattle.recorder.specs.declared.ledger.Log.{Log}
 use Rattle.recorder.specs.declared.rules.Refusal.{Refusal}
 use Rattle.records.specs.declared.settings.Sizes.{Sizes}
-use Rattle.reducers.specs.Numbers.{Numbers, zeros}
+use Rattle.reducers.specs.Numbers.{Numbers, Meets, zeros}
 use Rattle.traces.specs.Recording.{Recording, opened, extended, recording_after, Faithful, TracesAreFaithful, NewIsFaithful}
 use Rattle.traces.specs.Trace.{none, begins, turns, refused}
-use Rattle.traces.proofs.Steps.{settled_parts, Passed, passed, refused_turn, accepted_turn, turn_is_plain}
+use Rattle.recorder.proofs.Passing.{settled_parts, Passed, passed}
+use Rattle.traces.proofs.Steps.{refused_turn, accepted_turn, turn_is_plain}
 use Rattle.records.specs.Settings.{settled}
 
 map_replicate : (f : Log → ℕ) (n : ℕ) (l : Log) → map f (replicate n l) ≡ replicate n (f l)
@@ -43,7 +44,7 @@ begun_err z cores cells t u r some e =
           (bad, ap (λ (x : Begun). get_or x.says 0 0) (e ∙ begun_refused z cores cells t bad), ap (λ (x : Begun). x.leaves) (e ∙ begun_refused z cores cells t bad))
     ]
 
-pub begin_faithful : (z : Sizes) (w : World) → settled z (length w.states) (length w.cells) (length w.tape.store) ≡ true →
+begin_faithful : (z : Sizes) (w : World) → settled z (length w.states) (length w.cells) (length w.tape.store) ≡ true →
     Faithful (world (fresh z w.tape) w.cells w.states) (opened z w)
 begin_faithful z w e =
     let s = settled_parts z (length w.states) (length w.cells) (length w.tape.store) e in
@@ -62,7 +63,7 @@ begin_faithful z w e =
       behind = h.1;
     }
 
-module _ (meets : Numbers → Numbers → Type 0) (K : Rules) where
+module _ (meets : Meets) (K : Rules) where
   begin_step : (z : Sizes) (v : World) (b : Begun) (r : Recording) → b ≡ begun z (length v.states) (length v.cells) v.tape → Faithful v r →
       Faithful (world b.leaves v.cells v.states) (cond (refused b.says) r (opened z v))
   begin_step z v b r e f =
@@ -72,7 +73,7 @@ module _ (meets : Numbers → Numbers → Type 0) (K : Rules) where
         | inr bad ↦ subst there (sym (e ∙ begun_refused z (length v.states) (length v.cells) v.tape bad)) f
       ]
 
-  turn_faithful : (j : ℕ) (v : World) (r : Recording) (trail : List Numbers) (m : Numbers) → Passed v j (asks K j v) → Faithful v r →
+  turn_faithful : (j : ℕ) (v : World) (r : Recording) (trail : List Numbers) (m : Numbers) → Passed K j v → Faithful v r →
       let request = asks K j v in
       Faithful (world (entered v.tape j request trail m) (stored request v.cells) (set v.states j (K.after (get_or v.states j []) (brought request v.cells))))
       (extended K r j (new_arcs v.tape j request trail))
@@ -81,8 +82,8 @@ module _ (meets : Numbers → Numbers → Type 0) (K : Rules) where
       record {
         four = length-set v.tape.book.logs j _ ∙ f.four;
         plain = turn_is_plain K j v trail m f.four p ∙ ap (λ (x : Memory). stepped K x j) f.plain;
-        logs = turn_holds v.tape r.old r.arcs j request trail m p.store p.here f.four p.free f.logs;
-        behind = surplus_stays v.tape r.old (r.arcs j) j request trail m p.store p.here p.free (f.logs j p.here) ∙ f.behind;
+        logs = turn_holds v.tape r.old r.arcs j request trail m p.fitting p.here f.four p.free f.logs;
+        behind = surplus_stays v.tape r.old (r.arcs j) j request trail m p.fitting p.here p.free (f.logs j p.here) ∙ f.behind;
       }
 
   turn_step : (j : ℕ) (v : World) (o : Answered) (t : Turned meets K j v o) (r : Recording) → Faithful v r →
@@ -97,7 +98,7 @@ module _ (meets : Numbers → Numbers → Type 0) (K : Rules) where
             subst there (sym (refused_turn meets K j v o t never)) (subst (Faithful v) (sym (cond-true (refused (refusal K j v ∷ [])) r more says)) f)
       ]
 
-pub traces_are_faithful : (meets : Numbers → Numbers → Type 0) → TracesAreFaithful meets
+pub traces_are_faithful : (meets : Meets) → TracesAreFaithful meets
 traces_are_faithful meets K w v es r none f = f
 traces_are_faithful meets K w v es r (begins {es = fs} {v = u} t z b e) f = begin_step meets K z u b (recording_after t r) e (traces_are_faithful meets K w u fs r t f)
 traces_are_faithful meets K w v es r (turns {es = fs} {v = u} t j o g) f = turn_step meets K j u o g (recording_after t r) (traces_are_faithful meets K w u fs r t f)

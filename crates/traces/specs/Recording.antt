@@ -8,7 +8,7 @@ use Rattle.recorder.specs.declared.ledger.Log.{Log}
 use Rattle.records.specs.Format.{LogArc}
 use Rattle.records.specs.Settings.{no_sizes}
 use Rattle.records.specs.declared.settings.Sizes.{Sizes}
-use Rattle.reducers.specs.Numbers.{Numbers}
+use Rattle.reducers.specs.Numbers.{Meets}
 use Rattle.traces.specs.Trace.{Event, Trace, none, begins, turns, refused}
 
 -- a recording since its begin: the plain memory, the store as it was at the begin, and each core's arcs in their order
@@ -34,7 +34,7 @@ abbrev pub extended : Rules → Recording → ℕ → List LogArc → Recording
 extended K r j new = record { memory = turned K r.memory j; old = r.old; arcs = λ k. cond (k == j) (r.arcs k ++ new) (r.arcs k) }
 
 -- the recording after some calls; what is refused changes nothing, and a begin starts another
-abbrev pub recording_after : {meets : Numbers → Numbers → Type 0} {K : Rules} {w v : World} {es : List Event} → Trace meets K w es v → Recording → Recording
+abbrev pub recording_after : {meets : Meets} {K : Rules} {w v : World} {es : List Event} → Trace meets K w es v → Recording → Recording
 recording_after none r = r
 recording_after (begins {v = v} t z b e) r = cond (refused b.says) (recording_after t r) (opened z v)
 recording_after {K = K} (turns {v = v} t j o f) r =
@@ -48,7 +48,7 @@ pub record Faithful (w : World) (r : Recording) : Type 0 where
   pub behind : surplus w.tape.book.sizes w.tape.store ≡ surplus w.tape.book.sizes r.old
 
 -- and so it is after any calls
-abbrev pub TracesAreFaithful : (Numbers → Numbers → Type 0) → Type 0
+abbrev pub TracesAreFaithful : Meets → Type 0
 TracesAreFaithful meets =
     (K : Rules) (w v : World) (es : List Event) (r : Recording) (t : Trace meets K w es v) → Faithful w r → Faithful v (recording_after t r)
 

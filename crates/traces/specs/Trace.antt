@@ -3,7 +3,7 @@ use Rattle.std.specs.Prelude.{◌≡◌, ℕ, Bool, not, List, [], ◌∷◌, le
 use Rattle.cores.specs.Memory.{Rules}
 use Rattle.recorder.specs.Turns.{World, world, Begun, begun, Answered, Turned}
 use Rattle.records.specs.declared.settings.Sizes.{Sizes}
-use Rattle.reducers.specs.Numbers.{Numbers}
+use Rattle.reducers.specs.Numbers.{Meets}
 
 -- a call that was made, with its answer
 pub data Event : Type 0 where
@@ -11,7 +11,7 @@ pub data Event : Type 0 where
   took : ℕ → List ℕ → Event
 
 -- the calls, the newest first, lead from w to the last world
-pub data Trace (meets : Numbers → Numbers → Type 0) (K : Rules) (w : World) : List Event → World → Type 0 where
+pub data Trace (meets : Meets) (K : Rules) (w : World) : List Event → World → Type 0 where
   none : Trace meets K w [] w
   begins : {es : List Event} {v : World} → Trace meets K w es v → (z : Sizes) (b : Begun) →
       b ≡ begun z (length v.states) (length v.cells) v.tape →

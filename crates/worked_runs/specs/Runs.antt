@@ -1,16 +1,17 @@
 -- Eight runs worked through together, by the definitions of begin, turn, opening, step and run.
 use Rattle.std.specs.Prelude.{List, [], ◌∷◌, ◌≡◌, ℕ, ◌*◌, length, take, replicate}
-use Rattle.cores.specs.Memory.{Rules}
+use Rattle.cores.specs.Memory.{Rules, rules}
 use Rattle.cores.specs.Script.{script_next, script_after}
 use Rattle.logs.specs.Lawful.{whole}
 use Rattle.logs.specs.Session.{no_counts}
-use Rattle.recorder.specs.Decided.{turned_by, exactly, nothing, known_only}
+use Rattle.recorder.specs.Decided.{turned_by, exactly, nothing}
 use Rattle.recorder.specs.Refusals as book
-use Rattle.recorder.specs.Turns.{World, world, begun, rules}
+use Rattle.recorder.specs.Turns.{World, world, begun}
 use Rattle.records.specs.Format.{LogArc, written}
 use Rattle.records.specs.Settings.{no_sizes, log_of, heading_of}
 use Rattle.records.specs.declared.settings.Sizes.{Sizes}
 use Rattle.reducers.specs.Numbers.{Numbers, zeros}
+use Rattle.reducers.specs.Rows.{known_only}
 use Rattle.replayer.specs.Runs.{ran}
 use Rattle.replayer.specs.Steps.{Opened, Outcome, started, reopened, stepped}
 

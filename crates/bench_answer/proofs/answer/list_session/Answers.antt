@@ -2,8 +2,8 @@
 use Rattle.std.proofs.Common.{◌≡◌, true, length, string_bytes, ap, ◌∙◌, arith}
 use Rattle.std.proofs.lemmas.List.{length-map}
 use Rattle.std.proofs.lemmas.Bool.{and_parts}
+use Rattle.cores.specs.Memory.{rules}
 use Rattle.records.specs.Settings.{fits}
-use Rattle.recorder.specs.Turns.{rules}
 use Rattle.std.proofs.lemmas.Result.{IfOk-weaker}
 use Rattle.bench_answer.proofs.Telling.{tells}
 use Rattle.bench_answer.proofs.answer.list_session.Goals as goal

@@ -1,8 +1,7 @@
 -- Each of the three reducers has one choice.
 use Rattle.std.proofs.Common.{◌≡◌, map, replicate, string_bytes}
 use Rattle.bench_input.specs.declared.input.Reduction.TheVariants.{KeepAll, Pairwise, Exact}
-use Rattle.cores.specs.Memory.{start}
-use Rattle.recorder.specs.Turns.{rules}
+use Rattle.cores.specs.Memory.{rules, start}
 use Rattle.reducers.specs.Numbers.{zeros}
 use Rattle.reducers.specs.Rows.{KnownOnly}
 use Rattle.runs.proofs.Decided.{three_reducers_are_decided}

@@ -19,13 +19,13 @@ loop-word-init c =
     (λ x r q k. search (rules, tests))).runs
 
 pub loop-word-preserved : goal.loop-word-preserved
-loop-word-preserved c = word_read (given.iterator-loop-word).next_gives (λ x. x.now) c.args.bytes.now c.loop-word.word-iterator c.next.new.self _ c.in-Some.word _ c.in-Some.ensures.steps c.in_ok-keep_word.ensures c.loop-word.invariant
+loop-word-preserved c = word_read (given.iterator-loop-word).next_gives (λ x. x.now) c.args.bytes.now c.loop-word.word-iterator c.next.new.self _ c.in-Some.word _ c.in-Some.ensures.steps c.in_ok-keep_word.ensures.kept c.loop-word.invariant
 
 pub returns-in_err-keep_word : goal.returns-in_err-keep_word
 returns-in_err-keep_word c =
     let p = err_from_is_err_and c.from_residual.result c.from_residual.ensures.1 in
     rw (p.1, p.2) (handed_on {X = Unit {0}} (λ _. vec_items c.keep_word.new.found) (vec_items {X = ℕ} {Z = Global}) _ _ _
-    (word_bad (given.iterator-loop-word).next_gives (λ x. x.now) c.args.bytes.now c.loop-word.word-iterator c.next.new.self _ c.in-Some.word c.in-Some.ensures.steps c.loop-word.invariant) c.in_err-keep_word.ensures)
+    (word_bad (given.iterator-loop-word).next_gives (λ x. x.now) c.args.bytes.now c.loop-word.word-iterator c.next.new.self _ c.in-Some.word c.in-Some.ensures.steps c.loop-word.invariant) c.in_err-keep_word.ensures.kept)
 
 pub returns : goal.returns
 returns c = all_read (given.iterator-loop-word).next_gives (λ x. x.now) c.args.bytes.now c.loop-word.word-iterator c.next.new.self _ c.in-None.ensures.steps c.loop-word.invariant

@@ -1,9 +1,10 @@
 -- Where the buffers hold, begin refuses nothing, and the session is a whole one.
 use Rattle.std.proofs.Common.{◌≡◌, map, reverse, length, vec_items, sym, ap, ◌∙◌, subst, arith}
 use Rattle.std.proofs.lemmas.List.{length-map, take-map, drop-map}
+use Rattle.cores.specs.Memory.{rules}
 use Rattle.records.specs.Settings.{settled, SurplusKept}
 use Rattle.recorder.proofs.Ways.{number_not_zero}
-use Rattle.recorder.specs.Turns.{Tape, tape, world, scene, rules, said, Begun, fresh_tape, headed_from}
+use Rattle.recorder.specs.Turns.{Tape, tape, world, scene, said, Begun, fresh_tape, headed_from}
 use Rattle.recordings.specs.ByTheRules.{InARow}
 use Rattle.sessions.specs.Replaying.{first_opening, said_by_steps, run_behind}
 use Rattle.traces.proofs.Recordings.{begun_done, begun_err}

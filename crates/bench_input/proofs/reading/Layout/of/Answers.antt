@@ -1,7 +1,7 @@
 -- The parts are cut one after another.
 use Rattle.std.proofs.Common.{rules, tests, get_or, refl, ◌∙◌, arith}
 use Rattle.std.specs.Int.{IsInRange}
-use Rattle.bench_input.proofs.Laying.{text-laid, starts-laid, turns-laid, laid, not_laid}
+use Rattle.bench_input.proofs.Laying.{text_laid, starts_laid, turns_laid, laid, not_laid}
 use Rattle.bench_input.proofs.reading.Layout.of.Goals as goal
 
 pub returns-in_err-turns : goal.returns-in_err-turns
@@ -26,7 +26,7 @@ returns c =
       reduction = refl;
       cores = refl;
       cells = refl;
-      text = text-laid ns _ _ _ rest _ _ k p five a b;
-      starts = starts-laid ns _ _ _ rest _ _ k p five a b;
-      turns = c.in_ok-turns.ensures.1 ∙ turns-laid ns _ _ _ rest _ _ k p five a b;
+      text = text_laid ns _ _ _ rest _ _ k p five a b;
+      starts = starts_laid ns _ _ _ rest _ _ k p five a b;
+      turns = c.in_ok-turns.ensures.1 ∙ turns_laid ns _ _ _ rest _ _ k p five a b;
     }

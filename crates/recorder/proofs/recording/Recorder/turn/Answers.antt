@@ -6,7 +6,8 @@ use Rattle.cores.proofs.Surplus.{stored_surplus, drop_further}
 use Rattle.recorder.specs.Refusals.{book}
 use Rattle.recorder.specs.Turns.{tape}
 use Rattle.recorder.specs.declared.rules.Refusal.TheVariants.{NoSuchCore}
-use Rattle.recorder.proofs.Ways.{in_cells, unsettled, no_core, below, barred_out, done}
+use Rattle.recorder.proofs.Passing.{unbarred}
+use Rattle.recorder.proofs.Ways.{unsettled, no_core, below, barred_out, done}
 use Rattle.recorder.proofs.recording.Recorder.turn.Goals as goal
 
 pub returns-then-not-buffers_hold-clause-outcome : goal.returns-then-not-buffers_hold-clause-outcome
@@ -46,7 +47,7 @@ returns-clause-surplus g c =
     let here = below g.K.Core.state g.R.Reducer.meets g.K.Core.next g.K.Core.after a.text.now a.cores.now a.cells.now
     (tape g.R.Reducer.numbers a.self.now a.store.now) a.j c.if-not-buffers_hold.ensures c.in_ok-request.request (sym c.in_ok-request.ensures.ok_part ∙ c.request_of.ensures) in
     let mine : a.j + 1 ≤ z.cores = omega (arith, here) in
-    let inside = in_cells (book a.self.now.ledger) a.j c.in_ok-request.request (sym c.in_ok-admit.ensures) in (
+    let inside = (unbarred (book a.self.now.ledger) a.j c.in_ok-request.request (sym c.in_ok-admit.ensures)).inside in (
       drop_further (a.j + 1) z.cores c.tell_core.new.cores a.cores.now mine c.tell_core.ensures.others.1,
       ap (drop z.cells) c.act-number.ensures.stores ∙ stored_surplus c.in_ok-request.request z.cells a.cells.now inside,
     )

@@ -1,8 +1,9 @@
 -- One turn more in the row.
 use Rattle.std.proofs.Common.{◌≡◌, length, vec_items, sym, refl, ap, ◌∙◌, subst, arith}
 use Rattle.std.proofs.lemmas.List.{length-map}
+use Rattle.cores.specs.Memory.{rules}
 use Rattle.records.specs.Settings.{SurplusKept}
-use Rattle.recorder.specs.Turns.{rules, scene, said, answered}
+use Rattle.recorder.specs.Turns.{scene, said, answered}
 use Rattle.recordings.proofs.ByTheRules.{turn_sizes}
 use Rattle.sessions.proofs.Rows.{row_starts, row_goes}
 use Rattle.sessions.proofs.session.Room.record.Goals as goal

@@ -1,7 +1,8 @@
 -- The turns so far were taken in a row, there is room for the answers that come, and nothing beyond the sizes was touched.
 use Rattle.std.proofs.Common.{◌≡◌, ◌≤◌, map, reverse, length, take, vec_items, vec_len, vec_capacity}
+use Rattle.cores.specs.Memory.{rules}
 use Rattle.records.specs.Settings.{SurplusKept}
-use Rattle.recorder.specs.Turns.{rules, scene, said}
+use Rattle.recorder.specs.Turns.{scene, said}
 use Rattle.recordings.specs.ByTheRules.{InARow}
 use Rattle.sessions.proofs.session.Room.record.Given as goal
 
