@@ -32,26 +32,24 @@ fn cores(random: &mut Random) -> usize {
 
 /// Mostly few cells, so that accesses conflict.
 fn cells(random: &mut Random) -> usize {
-    let (first, last) = random.weighed(&[
+    random.within(&[
         (5, (1, 1)),
         (6, (2, 2)),
         (5, (3, 4)),
         (2, (5, 9)),
         (1, (10, 256)),
-    ]);
-    random.between(first, last)
+    ])
 }
 
 fn script_session(random: &mut Random, reducer: Reducer) -> Session {
     let (cores, cells) = (cores(random), cells(random));
-    let (first, last) = random.weighed(&[
+    let length = random.within(&[
         (1, (0, 0)),
         (3, (1, 8)),
         (6, (9, 40)),
         (3, (41, 255)),
         (1, (256, 256)),
     ]);
-    let length = random.between(first, last);
     let items: Vec<Item> = (0..length).map(|_| script_item(random, cells)).collect();
     let starts = (0..cores).map(|_| start(random, length)).collect();
     let turns = turns(random, cores);
@@ -107,14 +105,13 @@ enum Naming {
 
 /// Turns, at times with cores that the session has not.
 fn turns(random: &mut Random, cores: usize) -> Vec<u16> {
-    let (first, last) = random.weighed(&[
+    let length = random.within(&[
         (1, (0, 0)),
         (7, (1, 24)),
         (8, (25, 120)),
         (3, (121, 600)),
         (1, (1_000, 1_024)),
     ]);
-    let length = random.between(first, last);
     let naming = random.pick(&[Naming::Any, Naming::Any, Naming::InRounds, Naming::InBursts]);
     let strays = random.one_in(3);
     let mut core = 0;

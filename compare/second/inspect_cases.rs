@@ -121,14 +121,14 @@ fn recorded(random: &mut Random) -> (Setting, Vec<u8>) {
         (1, Plan::FullLogs),
     ]);
     let session = session(random, plan);
-    let (first, last) = random.weighed(&[
+    let log_bytes = random.within(&[
         (1, (12, 12)),
         (6, (13, 60)),
         (10, (61, 300)),
         (3, (301, 2_000)),
         (1, (2_001, 16_384)),
     ]);
-    let setting = session.setting(random.between(first, last));
+    let setting = session.setting(log_bytes);
     let store = old_bytes(random, setting.store_bytes());
     let recording = record(&session, setting.log_bytes, store).expect("the setting is in range");
     (setting, recording.recorder.store)

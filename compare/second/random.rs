@@ -58,4 +58,10 @@ impl Random {
         }
         unreachable!("the number is below the sum of the weights")
     }
+
+    /// A number from one of several ranges, each as often as its weight says.
+    pub fn within(&mut self, ranges: &[(usize, (usize, usize))]) -> usize {
+        let (first, last) = self.weighed(ranges);
+        self.between(first, last)
+    }
 }

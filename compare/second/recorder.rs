@@ -35,11 +35,7 @@ impl Recorder {
         cells: Vec<u16>,
         store: Vec<u8>,
     ) -> Result<Recorder, Refusal> {
-        let fits = setting.in_range()
-            && cores.len() >= setting.cores
-            && cells.len() >= setting.cells
-            && store.len() >= setting.store_bytes();
-        if !fits {
+        if !setting.fits(cores.len(), cells.len(), store.len()) {
             return Err(Refusal::BadSetting);
         }
         let mut recorder = Recorder {

@@ -32,11 +32,7 @@ impl Replayer {
         cells: Vec<u16>,
         store: &[u8],
     ) -> Result<Replayer, Refusal> {
-        let fits = setting.in_range()
-            && cores.len() >= setting.cores
-            && cells.len() >= setting.cells
-            && store.len() >= setting.store_bytes();
-        if !fits {
+        if !setting.fits(cores.len(), cells.len(), store.len()) {
             return Err(Refusal::BadSetting);
         }
         let reading = read_logs(setting, store);

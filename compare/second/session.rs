@@ -22,6 +22,11 @@ impl Setting {
         self.cores * self.log_bytes
     }
 
+    /// In range, with as many cores, cells and bytes of a store as it needs.
+    pub fn fits(&self, cores: usize, cells: usize, store: usize) -> bool {
+        self.in_range() && cores >= self.cores && cells >= self.cells && store >= self.store_bytes()
+    }
+
     /// The bytes of the log of a core within the store.
     pub fn log_range(&self, core: usize) -> std::ops::Range<usize> {
         core * self.log_bytes..(core + 1) * self.log_bytes
