@@ -1,4 +1,5 @@
 ghost use Rattle.std.specs.Prelude.{◌≡◌, replicate};
+ghost use Rattle.reducers.specs.declared.interface.AccessKind.TheVariants.{Write};
 ghost use Rattle.accesses.specs.Histories.{untouched, remembered, remembering, from_core, candidates_of, candidates_at, other as other_than, position_of, latest_first};
 
 use crate::access::{Access, Candidate};
@@ -13,28 +14,27 @@ pub struct CellHistory {
 
 impl CellHistory {
     // A write forgets the reads before it; a read takes the place of the same core's.
-    fn remembered(mut self, access: Access, kind: AccessKind) -> CellHistory
-        ensures { result ≡ remembered self access kind }
+    fn remember(&mut self, access: Access, kind: AccessKind)
+        ensures { self.new ≡ remembered self.old access kind }
     {
         match kind {
-            AccessKind::Write => CellHistory {
-                last_write: Some(access),
-                reads: [None; 4],
-            },
+            AccessKind::Write => {
+                self.last_write = Some(access);
+                self.reads = [None; 4];
+            }
             AccessKind::Read => {
                 let i = usize::from(access.core);
                 // the library's `get_mut` does not say what the array ends as
                 if i < self.reads.len() {
                     self.reads[i] = Some(access);
                 }
-                self
             }
         }
     }
 
     // What core `i` of the session's `cores` did last to the cell.
-    fn from_core(self, cores: usize, i: usize) -> Option<Candidate>
-        ensures { result ≡ from_core cores self i }
+    fn from_core(&self, cores: usize, i: usize) -> Option<Candidate>
+        ensures { result ≡ from_core cores self.now i }
     {
         if i >= cores {
             return None;
@@ -47,8 +47,17 @@ impl CellHistory {
             .or(write.map(|access| access.candidate(AccessKind::Write)))
     }
 
-    fn candidates(self, cores: usize, j: usize, kind: AccessKind) -> [Option<Candidate>; 3]
-        ensures { result ≡ candidates_of cores self j kind }
+    // What each other core did last to the cell: latest position first, then none.
+    #[inline(never)]
+    fn of_others(&self, cores: usize, j: usize) -> [Option<Candidate>; 3]
+        ensures { result ≡ candidates_of cores self.now j Write }
+    {
+        sorted([0, 1, 2].map(|k| self.from_core(cores, other(j, k))))
+    }
+
+    #[inline(always)]
+    fn candidates(&self, cores: usize, j: usize, kind: AccessKind) -> [Option<Candidate>; 3]
+        ensures { result ≡ candidates_of cores self.now j kind }
     {
         match kind {
             AccessKind::Read => {
@@ -61,7 +70,7 @@ impl CellHistory {
                     None,
                 ]
             }
-            AccessKind::Write => sorted([0, 1, 2].map(|k| self.from_core(cores, other(j, k)))),
+            AccessKind::Write => self.of_others(cores, j),
         }
     }
 }
@@ -127,11 +136,12 @@ impl History {
         ensures { self.new.cells ≡ remembering self.old.cells cell access kind }
     {
         if access.core < 4 && cell < 256 {
-            self.cells[cell] = self.cells[cell].remembered(access, kind);
+            self.cells[cell].remember(access, kind);
         }
     }
 
     // The candidates of an access of core `j`, in a session of so many cores: latest position first, then none.
+    #[inline(always)]
     pub fn candidates(
         &self,
         cores: usize,

@@ -6,6 +6,7 @@ ghost use Rattle.cores.specs.Memory.{brought, stored};
 use crate::interface::{Core, Request};
 
 // What core `j` requests, if there is such a core.
+#[inline(always)]
 pub fn request_of<K: Core>(text: &[u8], cores: &[K], j: usize) -> Option<Request>
     ensures { result ≡ requested K.next text.now (map K.state cores.now) j }
 {
@@ -14,6 +15,7 @@ pub fn request_of<K: Core>(text: &[u8], cores: &[K], j: usize) -> Option<Request
 }
 
 // Whether the request names no cell at or above `cell_count`.
+#[inline(always)]
 pub fn cell_exists(request: Request, cell_count: usize) -> bool
     ensures { result ≡ within request cell_count }
 {
@@ -26,6 +28,7 @@ pub fn cell_exists(request: Request, cell_count: usize) -> bool
 }
 
 // Acts on the cells, and gives the number that the request brings. A cell that is not there brings 0 and is not stored to.
+#[inline(always)]
 pub fn act(request: Request, cells: &mut [u16]) -> u16
     ensures brings { result ≡ brought request cells.old }
     ensures stores { cells.new ≡ stored request cells.old }
@@ -45,12 +48,14 @@ pub fn act(request: Request, cells: &mut [u16]) -> u16
     }
 }
 
+#[inline(always)]
 fn number_in(cells: &[u16], cell: u16) -> u16
     ensures { result ≡ slice_index cells.now cell }
 {
     cells.get(usize::from(cell)).copied().unwrap_or(0)
 }
 
+#[inline(always)]
 fn store(cells: &mut [u16], cell: u16, number: u16)
     ensures { cells.new ≡ slice_set cells.old cell number }
 {
@@ -62,6 +67,7 @@ fn store(cells: &mut [u16], cell: u16, number: u16)
 }
 
 // Tells core `j` a number: the core is copied out, told and written back. Where there is no such core, nothing changes.
+#[inline(always)]
 pub fn tell_core<K: Core>(text: &[u8], cores: &mut [K], j: usize, number: u16)
     ensures states { map K.state cores.new ≡ told K.after text.now (map K.state cores.old) j number }
     ensures others { OthersKept j cores.old cores.new }
@@ -72,6 +78,7 @@ pub fn tell_core<K: Core>(text: &[u8], cores: &mut [K], j: usize, number: u16)
     }
 }
 
+#[inline(always)]
 fn told_copy<K: Core>(text: &[u8], core: K, number: u16) -> K
     ensures { K.state result ≡ K.after text.now (K.state core) number }
 {

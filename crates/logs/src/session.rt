@@ -11,6 +11,7 @@ use records::settings::Sizes;
 use records::store::Logs;
 
 // The next record, or none after the end, an arc's source count held to `counts` where there are any.
+#[inline(always)]
 fn next(reader: &mut Reader, counts: Option<[u16; 4]>) -> Result<Option<Record>, SessionFault>
     ensures { record { says = held_said result; reader = view reader.new } ≡ advanced (view reader.old) (look_by counts (view reader.old)) }
 {
@@ -21,6 +22,7 @@ fn next(reader: &mut Reader, counts: Option<[u16; 4]>) -> Result<Option<Record>,
 }
 
 // Reads to the end of a log: the instructions that it gives, or the first fault.
+#[inline(always)]
 fn read_through(from: Reader, counts: Option<[u16; 4]>) -> Result<u16, SessionFault>
     ensures { held_as result ≡ (reading_by counts (view from.entry)).verdict }
 {

@@ -13,7 +13,7 @@ use accesses::history::History;
 use cores::interface::Request;
 use records::format::{Arc, Record};
 use records::settings::Sizes;
-use records::writing::write_record;
+use records::writing::put_in_log;
 use reducers::interface::Reducer;
 
 // The offset at which the next record of a log goes, and how many arcs the log has.
@@ -47,7 +47,7 @@ impl CoreLog<'_> {
     {
         let core = usize::from(self.by.core);
         let at = self.tail.offset;
-        self.tail.offset = write_record(self.store, self.sizes, core, at, record).unwrap_or(at);
+        self.tail.offset = put_in_log(self.store, self.sizes, core, at, record);
     }
 
     // Writes the end record: as many instructions as the latest one's count.

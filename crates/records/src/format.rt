@@ -29,6 +29,7 @@ pub enum Record {
 
 impl Record {
     // How many bytes it takes.
+    #[inline(always)]
     pub(crate) fn size(self) -> usize
         ensures { result ≡ length (bytes_of (entry self)) }
     {
@@ -40,6 +41,7 @@ impl Record {
 }
 
 impl Heading {
+    #[inline(always)]
     pub(crate) fn bytes(self) -> [u8; 6]
         ensures { result ≡ bytes_of (head self.core self.cores self.cells) }
     {
@@ -49,6 +51,7 @@ impl Heading {
 }
 
 impl Arc {
+    #[inline(always)]
     pub(crate) fn bytes(self) -> [u8; 7]
         ensures { result ≡ bytes_of (arc_entry (record { source = self.source.core; count = self.source.count; target = self.target })) }
     {
@@ -58,6 +61,7 @@ impl Arc {
     }
 }
 
+#[inline(always)]
 pub(crate) fn end_bytes(instructions: u16, arcs: u16) -> [u8; 6]
     ensures { result ≡ bytes_of (end instructions arcs) }
 {
@@ -67,6 +71,7 @@ pub(crate) fn end_bytes(instructions: u16, arcs: u16) -> [u8; 6]
 }
 
 // The record at the front of `rest`, which is what is left of a log.
+#[inline(always)]
 pub(crate) fn read_record(rest: &[u8], at: Location) -> Result<Record, ByteFault>
     ensures { read_as result ≡ entry_at at.core at.offset rest.now }
 {

@@ -57,6 +57,7 @@ impl<'a> Logs<'a> {
         self.reader_at(core, 0, State::Before)
     }
 
+    #[inline(always)]
     fn reader_at(self, core: usize, cursor: usize, state: State) -> Result<Reader<'a>, Refusal>
         ensures { reader_as result ≡ reader_at self.entry.store.now self.entry.sizes core cursor state }
     {
@@ -97,6 +98,7 @@ impl<'a> Reader<'a> {
     }
 
     // A reader that goes on from a saved place.
+    #[inline(always)]
     pub fn resume(
         store: &'a [u8],
         sizes: Sizes,
@@ -117,6 +119,7 @@ impl<'a> Reader<'a> {
 }
 
 // A source core's number in a table of four; 0 past its end.
+#[inline(always)]
 pub fn number_of(table: &[u16; 4], core: u8) -> u16
     ensures { result ≡ slice_index table.now core }
 {
@@ -124,6 +127,7 @@ pub fn number_of(table: &[u16; 4], core: u8) -> u16
 }
 
 // The table with a source core's number replaced.
+#[inline(always)]
 fn with_number(table: [u16; 4], core: u8, number: u16) -> [u16; 4]
     ensures { result ≡ slice_set table core number }
 {
@@ -136,6 +140,7 @@ fn with_number(table: [u16; 4], core: u8, number: u16) -> [u16; 4]
 }
 
 // Whether a log of this heading may have the arc behind the target `last`, where `latest` has each source core's latest target.
+#[inline(always)]
 fn arc_stands(heading: Heading, last: u16, latest: [u16; 4], arc: Arc) -> bool
     ensures { result ≡ arc_stands heading last latest arc.source.core arc.source.count arc.target }
 {
@@ -149,6 +154,7 @@ fn arc_stands(heading: Heading, last: u16, latest: [u16; 4], arc: Arc) -> bool
 
 impl Reader<'_> {
     // The state after `record`, which stands at `at`, or the rule that it breaks.
+    #[inline(always)]
     fn judge(&self, at: Location, record: Record) -> Result<State, RecordFault>
         requires { at.core ≡ self.now.heading.core }
         ensures { judged_as result ≡ follows self.now.heading self.now.state at.offset (entry «record») }
@@ -185,6 +191,7 @@ impl Reader<'_> {
     }
 
     // The next record with the state behind it, or none after the end.
+    #[inline(always)]
     fn peek(&self) -> Result<Option<(Record, State)>, RecordFault>
         ensures { seen_as result ≡ seen self.now.heading self.now.log.now self.now.cursor self.now.state }
     {
@@ -202,6 +209,7 @@ impl Reader<'_> {
     }
 
     // Reads the next record, or none after the end; a fault leaves the reader where it is.
+    #[inline(always)]
     pub fn next_record(&mut self) -> Result<Option<Record>, RecordFault>
         ensures { record { says = said result; reader = view self.new } ≡ next_record (view self.old) }
     {
@@ -215,6 +223,7 @@ impl Reader<'_> {
     }
 
     // As `peek`, and an arc's source count held to the instructions of its source core.
+    #[inline(always)]
     fn peek_held(&self, counts: &[u16; 4]) -> Result<Option<(Record, State)>, SessionFault>
         ensures { held_as result ≡ held counts.now self.now.heading self.now.log.now self.now.cursor self.now.state }
     {
@@ -234,6 +243,7 @@ impl Reader<'_> {
     }
 
     // As `next_record`, and an arc's source count held to the instructions of its source core.
+    #[inline(always)]
     pub fn next_held(&mut self, counts: &[u16; 4]) -> Result<Option<Record>, SessionFault>
         ensures { record { says = held_said result; reader = view self.new } ≡ next_held counts.now (view self.old) }
     {
@@ -247,6 +257,7 @@ impl Reader<'_> {
     }
 
     // Moves behind a record that was seen.
+    #[inline(always)]
     fn advance(&mut self, record: Record, state: State)
         requires { self.old.cursor + length (bytes_of (entry «record»)) < 2 ^ 64 }
         ensures { view self.new ≡ moved (view self.old) (entry «record») state }
@@ -256,6 +267,7 @@ impl Reader<'_> {
     }
 
     // Where among the arcs the reader stands; none before the head and after the end.
+    #[inline(always)]
     pub fn place(&self) -> Option<SavedPlace>
         ensures { result ≡ place_in self.now.cursor self.now.state }
     {

@@ -11,6 +11,7 @@ pub struct Sizes {
 
 impl Sizes {
     // Whether they are in range and a store of so many bytes holds all logs.
+    #[inline(always)]
     pub fn fit(self, store_bytes: usize) -> bool
         ensures { result ≡ fits store_bytes self }
     {
@@ -22,6 +23,7 @@ impl Sizes {
 }
 
 // Whether the sizes are in range and the buffers are long enough for them.
+#[inline(always)]
 pub fn buffers_hold(sizes: Sizes, cores: usize, cells: usize, store_bytes: usize) -> bool
     ensures { result ≡ settled sizes cores cells store_bytes }
 {

@@ -1,5 +1,6 @@
-ghost use Rattle.std.specs.Prelude.{◌≡◌, ◌+◌, ◌≤◌, length};
+ghost use Rattle.std.specs.Prelude.{◌≡◌, ◌+◌, ◌*◌, ◌<◌, ◌≤◌, true, length};
 ghost use Rattle.records.specs.Format.{entry, bytes_of, splice};
+ghost use Rattle.records.specs.Settings.{fits};
 ghost use Rattle.records.specs.Writing.{behind_as, write_at};
 
 use crate::faults::Refusal;
@@ -7,6 +8,7 @@ use crate::format::{Record, end_bytes};
 use crate::settings::Sizes;
 
 // Puts `bytes` at `at`.
+#[inline(always)]
 fn put_bytes(store: &mut [u8], at: usize, bytes: &[u8])
     requires { at + length bytes.now ≤ length store.old }
     ensures { store.new ≡ splice at bytes.now store.old }
@@ -15,6 +17,7 @@ fn put_bytes(store: &mut [u8], at: usize, bytes: &[u8])
 }
 
 // Puts the bytes of `record` at `at`.
+#[inline(always)]
 fn put_record(store: &mut [u8], at: usize, record: Record)
     requires { at + length (bytes_of (entry «record»)) ≤ length store.old }
     ensures { store.new ≡ splice at (bytes_of (entry «record»)) store.old }
@@ -26,8 +29,28 @@ fn put_record(store: &mut [u8], at: usize, record: Record)
     }
 }
 
+// Puts `record` at an offset of a core's log that has room for it there, and gives the offset behind it.
+#[inline(always)]
+pub fn put_in_log(
+    store: &mut [u8],
+    sizes: Sizes,
+    core: usize,
+    offset: usize,
+    record: Record,
+) -> usize
+    requires fitting { fits (length store.old) sizes ≡ true }
+    requires inside { core < sizes.cores }
+    requires room { offset + length (bytes_of (entry «record»)) ≤ sizes.log_bytes }
+    ensures bytes { store.new ≡ splice (core * sizes.log_bytes + offset) (bytes_of (entry «record»)) store.old }
+    ensures behind { result ≡ offset + length (bytes_of (entry «record»)) }
+{
+    put_record(store, core * sizes.log_bytes + offset, record);
+    offset + record.size()
+}
+
 // Writes `record` at an offset of a core's log, and answers the offset behind it;
 // refused, and nothing written, where the log has no room for it there.
+#[inline(always)]
 pub fn write_record(
     store: &mut [u8],
     sizes: Sizes,

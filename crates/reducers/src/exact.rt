@@ -71,7 +71,7 @@ impl Reducer for Exact {
     fn note(&mut self, j: usize, cell: usize, kind: AccessKind) {
         if j < 4 && cell < 256 {
             let row = self.known.row(j);
-            self.cells[cell] = self.cells[cell].noted(j, kind, row);
+            self.cells[cell].note(j, kind, row);
         }
     }
 }

@@ -22,15 +22,15 @@ impl Known {
     }
 
     // Whether the source is known to core `j`.
-    pub(crate) fn knows(self, source: Source, j: usize) -> bool
-        ensures { result ≡ (core? source.core && (core? j && nat_le source.count (row self.rows j source.core))) }
+    pub(crate) fn knows(&self, source: Source, j: usize) -> bool
+        ensures { result ≡ (core? source.core && (core? j && nat_le source.count (row self.now.rows j source.core))) }
     {
         source.core < 4 && j < 4 && source.count <= self.row(j).number(usize::from(source.core))
     }
 
     // What core `j` knows.
-    pub(crate) fn row(self, j: usize) -> Row
-        ensures { (k : ℕ) → slice_index result.at k ≡ row self.rows j k }
+    pub(crate) fn row(&self, j: usize) -> Row
+        ensures { (k : ℕ) → slice_index result.at k ≡ row self.now.rows j k }
     {
         self.rows.get(j).copied().unwrap_or_default()
     }

@@ -1,4 +1,4 @@
-ghost use Rattle.std.specs.Prelude.{◌≡◌, ℕ, max, slice_index, slice_set};
+ghost use Rattle.std.specs.Prelude.{◌≡◌, ℕ, max, length, slice_index, slice_set};
 ghost use Rattle.reducers.specs.Rows.{stamp_in, noted_in};
 
 use crate::interface::AccessKind;
@@ -39,8 +39,8 @@ impl Row {
     }
 
     // The number for core `i`.
-    pub(crate) fn number(self, i: usize) -> u16
-        ensures { result ≡ slice_index self.at i }
+    pub(crate) fn number(&self, i: usize) -> u16
+        ensures { result ≡ slice_index self.now.at i }
     {
         self.at.get(i).copied().unwrap_or(0)
     }
@@ -48,8 +48,8 @@ impl Row {
 
 impl Stamps {
     // The stamp of an access of core `i`.
-    pub(crate) fn stamp(self, i: usize, kind: AccessKind) -> Row
-        ensures { (k : ℕ) → slice_index result.at k ≡ slice_index (stamp_in self i kind).at k }
+    pub(crate) fn stamp(&self, i: usize, kind: AccessKind) -> Row
+        ensures { (k : ℕ) → slice_index result.at k ≡ slice_index (stamp_in self.now i kind).at k }
     {
         match kind {
             AccessKind::Write => self.written,
@@ -57,9 +57,10 @@ impl Stamps {
         }
     }
 
-    // The stamps once core `j`, which knows `row`, has made an access.
-    pub(crate) fn noted(mut self, j: usize, kind: AccessKind, row: Row) -> Stamps
-        ensures { result ≡ noted_in self j kind row }
+    // Notes an access of core `j`, which knows `row`.
+    pub(crate) fn note(&mut self, j: usize, kind: AccessKind, row: Row)
+        ensures noted { self.new ≡ noted_in self.old j kind row }
+        ensures four { length self.new.read ≡ 4 }
     {
         match kind {
             AccessKind::Write => self.written = row,
@@ -70,6 +71,5 @@ impl Stamps {
                 }
             }
         }
-        self
     }
 }

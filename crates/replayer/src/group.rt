@@ -22,6 +22,7 @@ struct ArcRead {
 }
 
 // Reads the next record: the arc that it is, or none.
+#[inline(always)]
 fn next_arc(reader: &mut Reader, counts: &[u16; 4]) -> Result<Option<ArcRead>, SessionFault>
     ensures arc { arc_as result ≡ arc_seen counts.now (view reader.old) }
     ensures behind { StandsBehind result (view reader.old) (view reader.new) }
@@ -33,6 +34,7 @@ fn next_arc(reader: &mut Reader, counts: &[u16; 4]) -> Result<Option<ArcRead>, S
 }
 
 // What is waited for so far, or else the source where that is not done.
+#[inline(always)]
 fn first_wait(waits: Option<Source>, source: Source, done: &[u16; 4]) -> Option<Source>
     ensures { result ≡ first_source waits source done.now }
 {
@@ -42,6 +44,7 @@ fn first_wait(waits: Option<Source>, source: Source, done: &[u16; 4]) -> Option<
 
 // Reads the arcs to the next instruction of `core` from `place` on, up to the first record that is no such arc.
 // Each record read, the one that ends the arcs too, is held to the rules and to each core's instructions.
+#[inline(always)]
 pub fn read_group(
     store: &[u8],
     sizes: Sizes,

@@ -73,6 +73,7 @@ impl Replayer {
     }
 
     // Refuses where core `j` has no step to make, whatever its log says.
+    #[inline(always)]
     fn bars(
         &self,
         cores: usize,
@@ -95,6 +96,7 @@ impl Replayer {
     }
 
     // The arcs to the next instruction of core `j`, where it has one left.
+    #[inline(always)]
     fn group(
         &self,
         cores: usize,
@@ -111,6 +113,7 @@ impl Replayer {
 
     // Counts the next instruction of core `j`, whose place moves behind the arcs to it, and gives the count.
     // Where a source is not done, or the request is a halt or names no cell, nothing changes.
+    #[inline(always)]
     fn go_on(&mut self, j: usize, group: Group, request: Request) -> Result<u16, StepRefusal>
         requires { (j < 4) × (slice_index self.old.done j < slice_index self.old.counts j) }
         ensures { WentOn result self.old j group request self.new }
@@ -131,6 +134,7 @@ impl Replayer {
 
     // One step of core `j`: the arcs to its next instruction are read and the core is asked, and where the source
     // of each arc is done, memory acts and the core is told. A refused or waiting step changes nothing.
+    #[inline(always)]
     pub fn step<K: Core>(
         &mut self,
         text: &[u8],
