@@ -1,5 +1,5 @@
 -- No arcs that keep the order of a run are without one that the exact reducer logs.
-use Rattle.runs.specs.Runs.{Run, Instr, Closure, program, link, chain, Before, Reduced}
+use Rattle.runs.specs.Runs.{Run, Instr, Has, Closure, program, link, chain, Before, Reduced}
 use Rattle.runs.specs.Recording.{arc, In}
 use Rattle.runs.specs.Theorems.{ExactIsLeast, DroppingLosesAnOrdering}
 use Rattle.runs.proofs.NoOrderingLost.{closure_before}
@@ -7,7 +7,7 @@ use Rattle.runs.proofs.ExactIsReduction.{exact_logs_the_reduction}
 
 -- a pair of the reduction that a closure orders is one of its links
 direct_link : (r : Run) (Link : Instr → Instr → Type 0) {x y : Instr} →
-    ((u v : Instr) → Closure r Link u v → Before r u v) → Reduced r x y → Closure r Link x y → Link x y
+    ((u v : Instr) → Closure (Has r) Link u v → Before r u v) → Reduced r x y → Closure (Has r) Link x y → Link x y
 direct_link r Link f d (program i k c l) = absurd (d.cores c)
 direct_link r Link f d (link i) = i
 direct_link r Link f d (chain {x = x} {y = z} {z = y} p q) = absurd (d.direct z (f x z p) (f z y q))

@@ -4,7 +4,7 @@ use mathlib.Core.Option.{some, none-ne-some}
 use native.Mathlib.Decide.{ℕ_discrete}
 use Rattle.std.proofs.lemmas.Bool.{eq-eqb, ne_eqb, eqb-true, and_from, and_parts, cases_Bool}
 use Rattle.reducers.specs.Numbers.{Numbers, zeros, ◌⊑◌}
-use Rattle.runs.specs.Runs.{local, read, write, Event, ev, Run, Instr, core_of, access_of, done, next, Conflict, Closure, program, link, chain, Before}
+use Rattle.runs.specs.Runs.{local, read, write, Event, ev, Run, Instr, core_of, access_of, done, next, Has, Conflict, Closure, program, link, chain, Before}
 use Rattle.runs.specs.Candidates.{last_write, latest_read, Candidate, candidates}
 use Rattle.runs.specs.Recording.{Arc, arc, In, Reach, Judged, Noted, Recording, begin, turn}
 use Rattle.runs.specs.Theorems.{NoOrderingLost}
@@ -180,7 +180,7 @@ good begin = good_begin
 good (turn {e = e} {h = h} {N = N} {N₁ = N₁} {N₂ = N₂} {L = L} {L₁ = L₁} r jd n) = good_turn e h N N₁ N₂ L L₁ (good r) jd n
 
 -- where every link is before in the run, so is the closure
-pub closure_before : (r : Run) {Link : Instr → Instr → Type 0} {x y : Instr} → ((u v : Instr) → Link u v → Before r u v) → Closure r Link x y → Before r x y
+pub closure_before : (r : Run) {Link : Instr → Instr → Type 0} {x y : Instr} → ((u v : Instr) → Link u v → Before r u v) → Closure (Has r) Link x y → Before r x y
 closure_before r f (program i k c l) = program i k c l
 closure_before r f (link {x = x} {y = y} i) = f x y i
 closure_before r f (chain p q) = chain (closure_before r f p) (closure_before r f q)

@@ -2,7 +2,7 @@
 use Rattle.std.specs.Prelude.{◌≡◌, ℕ, ◌<◌, ◌≤◌, ◌⊎◌, List, [], ◌∷◌, ◌++◌}
 use Rattle.reducers.specs.declared.interface.AccessKind.TheVariants.{Read, Write}
 use Rattle.reducers.specs.Numbers.{Numbers, Meets, zeros, taken, noted}
-use Rattle.runs.specs.Runs.{Access, local, read, write, Event, ev, Run, Instr, core_of, access_of, if_same, next, Closure}
+use Rattle.runs.specs.Runs.{Access, local, read, write, Event, ev, Run, Instr, core_of, access_of, if_same, next, Has, Closure}
 use Rattle.runs.specs.Candidates.{Candidate, candidates}
 
 -- `source` comes before `target`
@@ -19,7 +19,7 @@ In a (b ∷ l) = (a ≡ b) ⊎ In a l
 
 -- The closure of a run's program order and of arcs.
 abbrev pub Reach : Run → List Arc → Instr → Instr → Type 0
-Reach r L = Closure r (λ x y. In (arc x y) L)
+Reach r L = Closure (Has r) (λ x y. In (arc x y) L)
 
 abbrev pub place_of : Access → ℕ
 place_of local = 0

@@ -86,15 +86,15 @@ pub record Earlier (r : Run) (x y : Instr) : Type 0 where
 abbrev pub Conflict : Run → Instr → Instr → Type 0
 Conflict r x y = (o : Earlier r x y) × Conflicting o.does_first o.does_second
 
--- The closure of a run's program order and of given links.
-pub data Closure (r : Run) (Link : Instr → Instr → Type 0) : Instr → Instr → Type 0 where
-  program : {x y : Instr} → Has r x → Has r y → x.core ≡ y.core → x.count < y.count → Closure r Link x y
-  link : {x y : Instr} → Link x y → Closure r Link x y
-  chain : {x y z : Instr} → Closure r Link x y → Closure r Link y z → Closure r Link x z
+-- The closure of program order, among the instructions that there are, and of given links.
+pub data Closure (Is : Instr → Type 0) (Link : Instr → Instr → Type 0) : Instr → Instr → Type 0 where
+  program : {x y : Instr} → Is x → Is y → x.core ≡ y.core → x.count < y.count → Closure Is Link x y
+  link : {x y : Instr} → Link x y → Closure Is Link x y
+  chain : {x y z : Instr} → Closure Is Link x y → Closure Is Link y z → Closure Is Link x z
 
 -- The order of a run: the closure of program order and of all conflicts in position order.
 abbrev pub Before : Run → Instr → Instr → Type 0
-Before r = Closure r (Conflict r)
+Before r = Closure (Has r) (Conflict r)
 
 -- The reduction between cores: x of another core before y, and no third instruction between them.
 pub record Reduced (r : Run) (x y : Instr) : Type 0 where
