@@ -1,12 +1,14 @@
 -- A whole session whose run is listed tells of its turns.
 use Rattle.std.proofs.Common.{◌≡◌, ℕ, ◌-◌, true, List, [], ◌∷◌, ◌++◌, map, reverse, length, get_or, Some, None, sym, ap, ◌∙◌, subst, arith}
 use Rattle.std.proofs.lemmas.List.{take_all, drop_all, append-nil, length-map}
-use Rattle.bench_listing.proofs.StoreArcs.{arcs_held}
+use Rattle.logs.proofs.Arcs.{arcs_alone}
+use Rattle.logs.proofs.StoreArcs.{arcs_held}
+use Rattle.logs.specs.Arcs.{RunArc, all_arcs, arcs_by_core}
 use Rattle.bench_listing.specs.Lines.{text_of}
-use Rattle.bench_listing.specs.Runs.{RunArc, arcs_in_store, run_lines}
+use Rattle.bench_listing.specs.Runs.{run_lines}
 use Rattle.cores.specs.Memory.{Rules, Memory, start, plain}
 use Rattle.recordings.specs.ByTheRules.{ByTheRules}
-use Rattle.recordings.specs.Tracks.{logs_of}
+use Rattle.recordings.specs.Tracks.{logs_of, body_of}
 use Rattle.records.specs.Settings.{fits}
 use Rattle.records.specs.declared.settings.Sizes.{Sizes}
 use Rattle.reducers.specs.Numbers.{Meets}
@@ -41,10 +43,12 @@ module _ (meets : Meets) (K : Rules) (z : Sizes) (turns : List ℕ) (before late
       let h = f (length r.accepted - carried_out a.steps) w.replayed.finishes in
       omega (arith, h, none)
 
-  pub tells : (steps : ℕ) → ((n : ℕ) → a.ended ≡ 0 ∷ n ∷ [] → steps ≡ n) → (text : List ℕ) → text ≡ text_of (run_lines (arcs_in_store later.store z) later.cells steps) → Told meets K z m turns text
+  pub tells : (steps : ℕ) → ((n : ℕ) → a.ended ≡ 0 ∷ n ∷ [] → steps ≡ n) → (text : List ℕ) → text ≡ text_of (run_lines (all_arcs later.store z) later.cells steps) → Told meets K z m turns text
   tells steps ended text lines =
       let p = plain K (first_memory z before) r.accepted in
-      let arcs = arcs_held later.store z fit (λ k. logs_of k r.arcs) (λ k. get_or p.counts k 0) (λ k h. (r.logs k h).0) in
+      let arcs =
+      arcs_held later.store z fit (λ k. body_of k r.arcs) (λ k. get_or p.counts k 0) (λ k h. (r.logs k h).0)
+      ∙ (λ i. arcs_by_core (λ k. arcs_alone (logs_of k r.arcs) i) z.cores) in
       let cells = r.cells ∙ ap (λ l. p.cells ++ l) (drop_all z.cells before.cells (omega (arith, many_cells))) ∙ append-nil p.cells in
       record {
         says = reverse a.turns;

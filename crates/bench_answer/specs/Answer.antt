@@ -6,7 +6,8 @@ use Rattle.bench_input.specs.declared.input.Kind.TheVariants.{Script, Register}
 use Rattle.bench_input.specs.declared.input.Reduction.{Reduction}
 use Rattle.bench_input.specs.declared.input.Reduction.TheVariants.{KeepAll, Pairwise, Exact}
 use Rattle.bench_listing.specs.Lines.{text_of}
-use Rattle.bench_listing.specs.Runs.{arcs_by_core, run_lines}
+use Rattle.bench_listing.specs.Runs.{run_lines}
+use Rattle.logs.specs.Arcs.{arcs_by_core}
 use Rattle.cores.specs.Memory.{Rules, rules, Memory, start, plain}
 use Rattle.cores.specs.Register.{register_first, register_next, register_after}
 use Rattle.cores.specs.Script.{script_first, script_next, script_after}

@@ -3,7 +3,7 @@ ghost use Rattle.bench_input.specs.Described.{described};
 ghost use Rattle.bench_input.specs.Session.{session_of};
 ghost use Rattle.bench_listing.specs.Lines.{text_of};
 ghost use Rattle.cores.specs.Memory.{rules, start};
-ghost use Rattle.records.specs.Settings.{settled};
+ghost use Rattle.records.specs.Settings.{can_begin};
 ghost use Rattle.replayer.specs.Answers.{run_numbers};
 ghost use Rattle.bench_answer.specs.Answer.{sizes_for, reducer_for, decided_lines, session_lines, answer_lines, BadExactly};
 ghost use Rattle.bench_answer.specs.Told.{Told};
@@ -51,7 +51,7 @@ fn list_session<K: Core, R: Reducer + Drop>(
     store: &mut [u8],
     turns: &[usize],
 ) -> Result<String, AllocError>
-    requires fitting { settled sizes (length cores.old) (length cells.old) (length store.old) ≡ true }
+    requires fitting { can_begin sizes (length cores.old) (length cells.old) (length store.old) ≡ true }
     requires lengths { (length cores.old ≡ sizes.cores) × (length cells.old ≡ sizes.cells) }
     ensures { IfOk result (λ s. Told R.Reducer.meets (rules K.Core.next K.Core.after text.now) sizes (start cells.old (map K.Core.state cores.old)) turns.now (string_bytes s)) }
 {

@@ -1,4 +1,3 @@
 pub mod Texts
 pub mod Arcs
 pub mod Records
-pub mod StoreArcs

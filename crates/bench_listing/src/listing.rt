@@ -1,9 +1,10 @@
 ghost use Rattle.std.specs.Prelude.{◌≡◌, [], ◌∷◌, ◌++◌, IfOk, string_bytes, OnOk};
 ghost use Rattle.records.specs.Format.{entry};
 ghost use Rattle.records.specs.Reading.{view};
+ghost use Rattle.logs.specs.Arcs.{all_arcs};
 ghost use Rattle.logs.specs.Walk.{reading_from};
 ghost use Rattle.bench_listing.specs.Lines.{text_of};
-ghost use Rattle.bench_listing.specs.Runs.{arcs_text, log_text, arcs_in_store, run_lines};
+ghost use Rattle.bench_listing.specs.Runs.{arcs_text, log_text, run_lines};
 
 use crate::lines::{ArcLine, CellsLine};
 use records::format::Record;
@@ -36,7 +37,7 @@ fn write_arcs(out: &mut String, core: usize, from: Reader) -> Result<(), AllocEr
 
 // The arcs of all logs, core 0's first; none where the sizes do not fit the store.
 fn write_logs(out: &mut String, store: &[u8], sizes: Sizes) -> Result<(), AllocError>
-    ensures { OnOk result (string_bytes out.new ≡ string_bytes out.old ++ arcs_text (arcs_in_store store.now sizes)) }
+    ensures { OnOk result (string_bytes out.new ≡ string_bytes out.old ++ arcs_text (all_arcs store.now sizes)) }
 {
     let Ok(logs) = Logs::new(store, sizes) else {
         return Ok(());
@@ -57,7 +58,7 @@ fn write_run(
     cells: &[u16],
     steps: u32,
 ) -> Result<(), AllocError>
-    ensures { OnOk result (string_bytes out.new ≡ string_bytes out.old ++ text_of (run_lines (arcs_in_store store.now sizes) cells.now steps)) }
+    ensures { OnOk result (string_bytes out.new ≡ string_bytes out.old ++ text_of (run_lines (all_arcs store.now sizes) cells.now steps)) }
 {
     write_logs(out, store, sizes)?;
     let line = CellsLine { cells };
@@ -74,7 +75,7 @@ pub fn list_run(
     cells: &[u16],
     steps: u32,
 ) -> Result<String, AllocError>
-    ensures { IfOk result (λ s. string_bytes s ≡ text_of (run_lines (arcs_in_store store.now sizes) cells.now steps)) }
+    ensures { IfOk result (λ s. string_bytes s ≡ text_of (run_lines (all_arcs store.now sizes) cells.now steps)) }
 {
     let mut out = String::new(heap);
     write_run(&mut out, store, sizes, cells, steps)?;

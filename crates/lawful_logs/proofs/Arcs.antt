@@ -6,6 +6,7 @@ use Rattle.accesses.proofs.Order.{Pairwise}
 use Rattle.accesses.specs.declared.access.Access.{Access}
 use Rattle.accesses.specs.declared.access.Candidate.{Candidate}
 use Rattle.logs.specs.Lawful.{Stands, Behind, Lawful}
+use Rattle.logs.proofs.Arcs.{all_append}
 use Rattle.logs.proofs.Rules.{all_map}
 use Rattle.recorder.specs.Judged.{known?, fresh, arcs_to}
 use Rattle.recorder.specs.Refusals.{Book}
@@ -15,10 +16,6 @@ use Rattle.records.specs.declared.settings.Heading.{Heading}
 use Rattle.reducers.specs.Numbers.{Numbers}
 use Rattle.lawful_logs.specs.Orderly.{done_by}
 use Rattle.lawful_logs.proofs.Candidates.{Fit, CoresDiffer}
-
-pub all_append : {X : Type 0} (P : X → Type 0) (xs ys : List X) → AllByRecursion P xs → AllByRecursion P ys → AllByRecursion P (xs ++ ys)
-all_append P [] ys h k = k
-all_append P (x ∷ xs) ys h k = (h.0, all_append P xs ys h.1 k)
 
 -- the arc from a candidate
 abbrev arc_from : Access → Candidate → LogArc

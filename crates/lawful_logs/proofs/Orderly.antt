@@ -8,15 +8,16 @@ use Rattle.accesses.specs.Histories.{no_reads, no_cell, untouched, remembered}
 use Rattle.accesses.specs.declared.access.Access.{Access}
 use Rattle.accesses.specs.declared.history.CellHistory.{CellHistory}
 use Rattle.cores.specs.Memory.{Rules, brought, stored}
-use Rattle.logs.specs.Lawful.{Holds}
+use Rattle.logs.proofs.Arcs.{all_append, arcs_between, arcs_more}
+use Rattle.logs.specs.Lawful.{Between, arcs_in, Holds, Lawful}
 use Rattle.recorder.proofs.Passing.{Passed, passed}
 use Rattle.recorder.specs.Refusals.{Book, log_in, touched, counted_in, started}
 use Rattle.recorder.specs.Sound.{no_log}
 use Rattle.recorder.specs.Turns.{World, world, asks, Answered, Begun, begun, candidates_for, remembered_as, next_access, new_arcs, entered, refusal, Turned}
 use Rattle.recorder.specs.declared.ledger.Log.{Log}
 use Rattle.recorder.specs.declared.rules.Touch.{Touch}
-use Rattle.records.specs.Format.{LogArc}
-use Rattle.records.specs.Settings.{log_of, heading_of, settled}
+use Rattle.records.specs.Format.{LogArc, arc, end_size}
+use Rattle.records.specs.Settings.{log_of, heading_of, can_begin}
 use Rattle.records.specs.declared.settings.Sizes.{Sizes}
 use Rattle.reducers.specs.Numbers.{Numbers, Meets}
 use Rattle.reducers.proofs.RowLists.{each_replicate}
@@ -28,7 +29,7 @@ use Rattle.traces.specs.Recording.{Recording, opened, extended, recording_after}
 use Rattle.traces.specs.Trace.{none, begins, turns, refused}
 use Rattle.lawful_logs.specs.Orderly.{done_by, Done, WriteDone, ReadDone, CellDone, OrderlyLog, Orderly, TracesAreOrderly, NewIsOrderly, OrderlyIsAccepted}
 use Rattle.logs.proofs.Rules.{all_map}
-use Rattle.lawful_logs.proofs.Arcs.{all_append, arcs_target, arcs_done, arcs_lawful, lawful_append}
+use Rattle.lawful_logs.proofs.Arcs.{arcs_target, arcs_done, arcs_lawful, lawful_append}
 use Rattle.lawful_logs.proofs.Candidates.{Fit, CoresDiffer, candidates_fit}
 
 -- what holds of a new element and of the one that was there holds wherever one looks
@@ -137,26 +138,31 @@ turn_orderly K j v r trail m four p o =
     let fit = fit_for b j v.tape.history (touched request) o.remembered in
     let here = o.logs j p.here in
     let targets = arcs_target by v.tape.numbers xs trail in
-    let own_log : OrderlyLog b' j (r.arcs j ++ fresh-arcs) = record {
-      lawful = lawful_append (heading_of b.sizes j) (r.arcs j) fresh-arcs (done_by b j) here.lawful here.reached
-          (arcs_lawful b by some v.tape.numbers xs trail fit.0 fit.1)
-          (all_map (λ a. a.target ≡ by.count) (λ a. done_by b j < a.target) fresh-arcs (λ a e. omega (arith, e)) targets);
-      reached = all_append (λ a. a.target ≤ done_by b' j) (r.arcs j) fresh-arcs (reached_more b b' more j (r.arcs j) here.reached)
-          (all_map (λ a. a.target ≡ by.count) (λ a. a.target ≤ done_by b' j) fresh-arcs (λ a e. omega (arith, e, one)) targets);
-      sources = all_append (λ a. a.count ≤ done_by b' a.source) (r.arcs j) fresh-arcs (sources_more b b' more (r.arcs j) here.sources)
-          (sources_more b b' more fresh-arcs (arcs_done b by some v.tape.numbers xs trail fit.0));
+    let body = r.bodies j in
+    let sum = arcs_more body fresh-arcs in
+    let own_log : OrderlyLog b' j (body ++ map arc fresh-arcs) = record {
+      lawful = record {
+        between = all_append Between body (map arc fresh-arcs) here.lawful.between (arcs_between fresh-arcs);
+        lawful = subst (Lawful (heading_of b.sizes j)) (sym sum) (lawful_append (heading_of b.sizes j) (arcs_in body) fresh-arcs (done_by b j) here.lawful.lawful here.reached
+            (arcs_lawful b by some v.tape.numbers xs trail fit.0 fit.1)
+            (all_map (λ a. a.target ≡ by.count) (λ a. done_by b j < a.target) fresh-arcs (λ a e. omega (arith, e)) targets));
+      };
+      reached = subst (AllByRecursion (λ a. a.target ≤ done_by b' j)) (sym sum) (all_append (λ a. a.target ≤ done_by b' j) (arcs_in body) fresh-arcs (reached_more b b' more j (arcs_in body) here.reached)
+          (all_map (λ a. a.target ≡ by.count) (λ a. a.target ≤ done_by b' j) fresh-arcs (λ a e. omega (arith, e, one)) targets));
+      sources = subst (AllByRecursion (λ a. a.count ≤ done_by b' a.source)) (sym sum) (all_append (λ a. a.count ≤ done_by b' a.source) (arcs_in body) fresh-arcs (sources_more b b' more (arcs_in body) here.sources)
+          (sources_more b b' more fresh-arcs (arcs_done b by some v.tape.numbers xs trail fit.0)));
     }
     in
     record {
       remembered = remembering_done b' by (some, omega (arith, one)) v.tape.history (touched request) (λ c. cell_more b b' more (get_or v.tape.history c no_cell) (o.remembered c));
       logs = λ i h. elim (cases_eq i j) [
         | inl same ↦
-            subst (λ n. OrderlyLog b' n (cond (eqb n j) (r.arcs n ++ fresh-arcs) (r.arcs n))) (sym same)
-            (subst (OrderlyLog b' j) (sym (cond-true (eqb j j) (r.arcs j ++ fresh-arcs) (r.arcs j) (eq-eqb j j refl))) own_log)
+            subst (λ n. OrderlyLog b' n (cond (eqb n j) (r.bodies n ++ map arc fresh-arcs) (r.bodies n))) (sym same)
+            (subst (OrderlyLog b' j) (sym (cond-true (eqb j j) (r.bodies j ++ map arc fresh-arcs) (r.bodies j) (eq-eqb j j refl))) own_log)
         | inr apart ↦
             let l = o.logs i h in
-            subst (OrderlyLog b' i) (sym (cond-false (eqb i j) (r.arcs i ++ fresh-arcs) (r.arcs i) (ne_eqb i j apart)))
-            (record { lawful = l.lawful; reached = reached_more b b' more i (r.arcs i) l.reached; sources = sources_more b b' more (r.arcs i) l.sources })
+            subst (OrderlyLog b' i) (sym (cond-false (eqb i j) (r.bodies i ++ map arc fresh-arcs) (r.bodies i) (ne_eqb i j apart)))
+            (record { lawful = l.lawful; reached = reached_more b b' more i (arcs_in (r.bodies i)) l.reached; sources = sources_more b b' more (arcs_in (r.bodies i)) l.sources })
       ];
       idle = λ i h. others b j k _ at i (λ e. omega (arith, e, h, p.here)) ∙ o.idle i h;
     }
@@ -164,7 +170,7 @@ turn_orderly K j v r trail m four p o =
 begin_orderly : (z : Sizes) (v : World) → Orderly (world (fresh z v.tape) v.cells v.states) (opened z v)
 begin_orderly z v = record {
   remembered = none_remembered (started z);
-  logs = λ k h. record { lawful = tt; reached = tt; sources = tt };
+  logs = λ k h. record { lawful = record { between = tt; lawful = tt }; reached = tt; sources = tt };
   idle = λ k h. none_done z k;
 }
 
@@ -173,7 +179,7 @@ module _ (meets : Meets) (K : Rules) where
       Orderly (world b.leaves v.cells v.states) (cond (refused b.says) r (opened z v))
   begin_step z v b r e o =
       let there : Begun → Type 0 = λ x. Orderly (world x.leaves v.cells v.states) (cond (refused x.says) r (opened z v)) in
-      elim (cases_Bool (settled z (length v.states) (length v.cells) (length v.tape.store))) [
+      elim (cases_Bool (can_begin z (length v.states) (length v.cells) (length v.tape.store))) [
         | inl good ↦ subst there (sym (e ∙ begun_done z (length v.states) (length v.cells) v.tape good)) (begin_orderly z v)
         | inr bad ↦ subst there (sym (e ∙ begun_refused z (length v.states) (length v.cells) v.tape bad)) o
       ]
@@ -213,15 +219,15 @@ orderly_is_accepted w r f o =
     let b = w.tape.book in
     let counts = map (λ (l : Log). l.instructions) b.logs in (
       record {
-        arcs = r.arcs;
+        bodies = r.bodies;
         holds = λ j h.
             let l = o.logs j h in
             let held = f.logs j h in
-            let is : Holds (heading_of b.sizes j) (log_of w.tape.store b.sizes j) (r.arcs j) (done_by b j) =
-            record { lawful = l.lawful; reached = l.reached; rest = drop ((log_in b j).end + 6) (log_of r.old b.sizes j); bytes = held.says }
+            let is : Holds (heading_of b.sizes j) (log_of w.tape.store b.sizes j) (r.bodies j) (done_by b j) =
+            record { lawful = l.lawful; reached = l.reached; rest = drop ((log_in b j).end + end_size) (log_of r.old b.sizes j); bytes = held.says }
             in
-            subst (Holds (heading_of b.sizes j) (log_of w.tape.store b.sizes j) (r.arcs j)) (sym (counts_at b.logs j)) is;
-        sources = λ j h. all_map (λ a. a.count ≤ done_by b a.source) (λ a. a.count ≤ get_or counts a.source 0) (r.arcs j)
+            subst (Holds (heading_of b.sizes j) (log_of w.tape.store b.sizes j) (r.bodies j)) (sym (counts_at b.logs j)) is;
+        sources = λ j h. all_map (λ a. a.count ≤ done_by b a.source) (λ a. a.count ≤ get_or counts a.source 0) (arcs_in (r.bodies j))
             (λ a q. omega (arith, q, counts_at b.logs a.source)) (o.logs j h).sources;
         four = length-map b.logs (λ (l : Log). l.instructions) ∙ f.four;
         others = λ j h. counts_at b.logs j ∙ o.idle j h;

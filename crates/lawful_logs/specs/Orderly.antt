@@ -5,11 +5,11 @@ use Rattle.accesses.specs.Histories.{no_cell, untouched}
 use Rattle.accesses.specs.declared.access.Access.{Access}
 use Rattle.accesses.specs.declared.history.CellHistory.{CellHistory}
 use Rattle.cores.specs.Memory.{Rules}
-use Rattle.logs.specs.Lawful.{Lawful, Accepted}
+use Rattle.logs.specs.Lawful.{Body, arcs_in, Accepted}
 use Rattle.recorder.specs.Refusals.{Book, log_in, started}
 use Rattle.recorder.specs.Turns.{World}
 use Rattle.recorder.specs.declared.ledger.Log.{Log}
-use Rattle.records.specs.Format.{LogArc}
+use Rattle.records.specs.Format.{Entry}
 use Rattle.records.specs.Settings.{heading_of, no_sizes}
 use Rattle.records.specs.declared.settings.Sizes.{Sizes}
 use Rattle.reducers.specs.Numbers.{Meets}
@@ -36,15 +36,15 @@ ReadDone b i (Some a) = (a.core ≡ i) × Done b a.core a.count
 abbrev pub CellDone : Book → CellHistory → Type 0
 CellDone b h = ((i : ℕ) → ReadDone b i (slice_index_or h.reads i None)) × WriteDone b h.last_write
 
--- the arcs in the log of core k: lawful, to and from instructions that were done
-pub record OrderlyLog (b : Book) (k : ℕ) (arcs : List LogArc) : Type 0 where
-  pub lawful : Lawful (heading_of b.sizes k) arcs
-  pub reached : AllByRecursion (λ a. a.target ≤ done_by b k) arcs
-  pub sources : AllByRecursion (λ a. a.count ≤ done_by b a.source) arcs
+-- the body of the log of core k: lawful, its arcs to and from instructions that were done
+pub record OrderlyLog (b : Book) (k : ℕ) (body : List Entry) : Type 0 where
+  pub lawful : Body (heading_of b.sizes k) body
+  pub reached : AllByRecursion (λ a. a.target ≤ done_by b k) (arcs_in body)
+  pub sources : AllByRecursion (λ a. a.count ≤ done_by b a.source) (arcs_in body)
 
 pub record Orderly (w : World) (r : Recording) : Type 0 where
   pub remembered : (c : ℕ) → CellDone w.tape.book (slice_index_or w.tape.history c no_cell)
-  pub logs : (k : ℕ) → k < w.tape.book.sizes.cores → OrderlyLog w.tape.book k (r.arcs k)
+  pub logs : (k : ℕ) → k < w.tape.book.sizes.cores → OrderlyLog w.tape.book k (r.bodies k)
   pub idle : (k : ℕ) → w.tape.book.sizes.cores ≤ k → done_by w.tape.book k ≡ 0
 
 -- and so it is after any calls
@@ -61,4 +61,4 @@ NewIsOrderly =
 abbrev pub OrderlyIsAccepted : Type 0
 OrderlyIsAccepted =
     (w : World) (r : Recording) → Faithful w r → Orderly w r →
-    (logs : Accepted w.tape.store w.tape.book.sizes (map (λ (l : Log). l.instructions) w.tape.book.logs)) × (logs.arcs ≡ r.arcs)
+    (logs : Accepted w.tape.store w.tape.book.sizes (map (λ (l : Log). l.instructions) w.tape.book.logs)) × (logs.bodies ≡ r.bodies)

@@ -1,5 +1,6 @@
 -- The loops over the cores of a session: what is still to be read gives what the whole session gives.
 use Rattle.std.proofs.Common.{◌≡◌, ℕ, suc, ◌+◌, ◌-◌, ◌<◌, ◌≤◌, Bool, true, false, cond, ◌&&◌, ltb, List, length, set, Ok, Err, Option, Result, sym, refl, ap, ◌∙◌, arith}
+use Rattle.std.proofs.lemmas.Bool.{and_parts, ltb-true}
 use Rattle.records.specs.declared.reading.Reader.{Reader}
 use Rattle.records.specs.declared.reading.State.TheVariants.{Before}
 use Rattle.records.specs.declared.settings.Sizes.{Sizes}
@@ -16,6 +17,15 @@ cond_front false v w refused q = absurd cc
 -- a new reader stands at the front of its core's log
 pub new_reader : (store : List ℕ) (z : Sizes) (j : ℕ) (r : Reader) → reader_as (Ok r) ≡ reader_at store z j 0 Before → view r ≡ at_front (heading_of z j) (log_of store z j)
 new_reader store z j r q = cond_front (fits (length store) z && ltb j z.cores) (view r) (at_front (heading_of z j) (log_of store z j)) bad_setting q
+
+-- and its core is the session's
+cond_true : {X Y : Type 0} (b : Bool) (v : X) (w : Result X Y) (e : Y) → Ok v ≡ cond b w (Err e) → b ≡ true
+cond_true true v w e q = refl
+cond_true false v w e q = absurd cc
+
+pub reader_inside : (store : List ℕ) (z : Sizes) (j : ℕ) (r : Reader) → reader_as (Ok r) ≡ reader_at store z j 0 Before → j < z.cores
+reader_inside store z j r q =
+    ltb-true j z.cores (and_parts (fits (length store) z) (ltb j z.cores) (cond_true (fits (length store) z && ltb j z.cores) (view r) (Ok (at_front (heading_of z j) (log_of store z j))) bad_setting q)).1
 
 -- what is read through a new reader is its core's log
 pub read_here : (store : List ℕ) (z : Sizes) (j : ℕ) (r : Reader) → reader_as (Ok r) ≡ reader_at store z j 0 Before → (held : Option (List ℕ)) (x : Result ℕ Fault) → x ≡ (reading_by held (view r)).verdict →

@@ -1,7 +1,7 @@
 -- Reading a log to its end or first fault: the whole log holds, or the records before the fault are lawful and what stands there breaks the named cause.
 use Rattle.std.proofs.Common.{◌≡◌, ℕ, zero, suc, ◌+◌, ◌-◌, ◌/◌, ◌<◌, ◌≤◌, Bool, true, false, cond, ◌&&◌, eqb, leb, List, [], ◌∷◌, ◌++◌, length, drop, set, Some, Ok, Err, Result, sym, refl, ap, ◌∙◌, subst, inl, inr, arith}
 use Rattle.std.specs.List.{AllByRecursion}
-use Rattle.std.proofs.lemmas.List.{drop-drop, drop_at, append_assoc, append-nil, length-append, length-drop, map_push}
+use Rattle.std.proofs.lemmas.List.{drop-drop, drop_at, append_assoc, append-nil, length-append, length-drop}
 use Rattle.std.proofs.lemmas.Bool.{and_parts, eqb-true, eqb-false, leb-true, leb-false}
 use Rattle.records.specs.declared.reading.State.{State}
 use Rattle.records.specs.declared.reading.State.TheVariants.{Before, Among, After}
@@ -9,12 +9,13 @@ use Rattle.records.specs.declared.settings.Heading.{Heading}
 use Rattle.records.specs.Faults.{Fault}
 use Rattle.records.specs.Format.{LogArc, Entry, head, arc, end, bytes_of, written}
 use Rattle.records.specs.Reading.{broken, entry_at, arc_stands, one_more, no_targets, passed, judged, View, moved}
-use Rattle.records.proofs.Looking.{entry_fits}
-use Rattle.logs.specs.Lawful.{Lawful, front, whole, BadEnd, wrong_arcs, too_few_instructions, Breaks, no_head, head_later, bad_arc, bad_end, Front, Judged}
+use Rattle.records.proofs.Looking.{entry_fits, size_pos}
+use Rattle.logs.specs.Lawful.{Between, arcs_in, Body, Lawful, front, whole, BadEnd, wrong_arcs, too_few_instructions, Breaks, no_head, head_later, bad_arc, bad_end, Front, Judged}
 use Rattle.logs.specs.Walk.{Reading, prefixed, stopped, walk, look, reading_from, at_front}
+use Rattle.logs.proofs.Arcs.{arcs_append}
 use Rattle.logs.proofs.Bytes.{octets_drop, written_back, unread}
 use Rattle.logs.proofs.Going.{walk_some, walk_fault}
-use Rattle.logs.proofs.Rules.{Knows, knows_none, knows_push, stands_follows, fails_breaks, lawful_push, all_map, any_map}
+use Rattle.logs.proofs.Rules.{Knows, knows_none, knows_push, stands_follows, fails_breaks, lawful_push, all_push, all_map, any_map}
 
 -- records in front of what reading on gives
 abbrev pub in_front : List Entry → Reading → Reading
@@ -24,8 +25,8 @@ pub written_append : (xs ys : List Entry) → written (xs ++ ys) ≡ written xs 
 written_append [] ys = refl
 written_append (x ∷ xs) ys = ap (λ r. bytes_of x ++ r) (written_append xs ys) ∙ sym (append_assoc (bytes_of x) (written xs) (written ys))
 
-pub front_push : (g : Heading) (xs : List LogArc) (a : LogArc) → front g (xs ++ (a ∷ [])) ≡ front g xs ++ (arc a ∷ [])
-front_push g xs a = ap (λ r. head g.core g.cores g.cells ∷ r) (map_push arc xs a)
+body_push : (g : Heading) (body : List Entry) (e : Entry) → Body g body → Between e → Lawful g (arcs_in (body ++ (e ∷ []))) → Body g (body ++ (e ∷ []))
+body_push g body e l b w = record { between = all_push Between body e l.between b; lawful = w }
 
 -- one record more in front
 in_front_push : (es : List Entry) (e : Entry) (r : Reading) → in_front es (prefixed e r) ≡ in_front (es ++ (e ∷ [])) r
@@ -94,9 +95,12 @@ module _ (g : Heading) (log : List ℕ) (four : g.cores ≤ 4) (octets : AllByRe
       drop (length (written es)) log ≡ bytes_of e ++ drop (length (bytes_of e)) (drop (length (written es)) log)
   stands_here es e q = written_back g.core (length (written es)) (drop (length (written es)) log) e (octets_drop (length (written es)) log octets) q
 
-  module _ (f : ℕ) (xs : List LogArc) (last : ℕ) (latest : List ℕ) (m : ℕ) (w : Knows xs last latest m) (l : Lawful g xs) (at : Stood g log (front g xs)) where
+  module _ (f : ℕ) (body : List Entry) (last : ℕ) (latest : List ℕ) (m : ℕ) (w : Knows (arcs_in body) last latest m) (l : Body g body) (at : Stood g log (front g body)) where
+    abbrev xs : List LogArc
+    xs = arcs_in body
+
     abbrev es : List Entry
-    es = front g xs
+    es = front g body
 
     abbrev c : ℕ
     c = length (written es)
@@ -108,28 +112,33 @@ module _ (g : Heading) (log : List ℕ) (four : g.cores ≤ 4) (octets : AllByRe
     Here = Judged g log (in_front es (walk look (suc f) (behind g log es s)))
 
     front_is : Front g es
-    front_is = inr (xs, refl, l)
+    front_is = inr (body, refl, l)
+
+    -- the walk over one entry
+    one_step : (e : Entry) (n : State) → look (behind g log es s) ≡ Ok (Some (e, n)) →
+        in_front es (walk look (suc f) (behind g log es s)) ≡ in_front (front g (body ++ (e ∷ []))) (walk look f (behind g log (front g (body ++ (e ∷ []))) n))
+    one_step e n seen_is =
+        ap (in_front es) (walk_some look (behind g log es s) f e n seen_is ∙ ap (λ v. prefixed e (walk look f v)) (moved_behind g log es s n e))
+        ∙ in_front_push es e (walk look f (behind g log (es ++ (e ∷ [])) n))
 
     on_arc : (a : LogArc) → entry_at g.core c (drop c log) ≡ Ok (arc a) →
-        (Knows (xs ++ (a ∷ [])) a.target (set latest a.source a.target) (one_more m) → Lawful g (xs ++ (a ∷ [])) → Stood g log (front g (xs ++ (a ∷ []))) →
-        Judged g log (in_front (front g (xs ++ (a ∷ []))) (walk look f (behind g log (front g (xs ++ (a ∷ []))) (Among a.target (set latest a.source a.target) (one_more m)))))) →
+        (Knows (arcs_in (body ++ (arc a ∷ []))) a.target (set latest a.source a.target) (one_more m) → Body g (body ++ (arc a ∷ [])) → Stood g log (front g (body ++ (arc a ∷ []))) →
+        Judged g log (in_front (front g (body ++ (arc a ∷ []))) (walk look f (behind g log (front g (body ++ (arc a ∷ []))) (Among a.target (set latest a.source a.target) (one_more m)))))) →
         (b : Bool) → arc_stands g last latest a.source a.count a.target ≡ b → Here
     on_arc a q again true t =
         let h = stands_follows xs last latest m w a g t in
         let n = Among a.target (set latest a.source a.target) (one_more m) in
         let seen_is : look (behind g log es s) ≡ Ok (Some (arc a, n)) =
         ap (judged g s c) q ∙ ap (λ b. passed (arc a) (cond b (Ok n) (Err (broken 2 g.core c 4)))) t in
-        let r = again (knows_push xs last latest m w a (omega (arith, h.0.core)) h.1) (lawful_push g xs a l h.0 h.2)
-        (subst (Stood g log) (sym (front_push g xs a)) (stood_push g log es (arc a) _ at (stands_here es (arc a) q))) in
-        let step : in_front es (walk look (suc f) (behind g log es s)) ≡ in_front (front g (xs ++ (a ∷ []))) (walk look f (behind g log (front g (xs ++ (a ∷ []))) n)) =
-        ap (in_front es) (walk_some look (behind g log es s) f (arc a) n seen_is ∙ ap (λ v. prefixed (arc a) (walk look f v)) (moved_behind g log es s n (arc a)))
-        ∙ in_front_push es (arc a) (walk look f (behind g log (es ++ (arc a ∷ [])) n))
-        ∙ ap (λ x. in_front x (walk look f (behind g log x n))) (sym (front_push g xs a)) in
-        subst (Judged g log) (sym step) r
+        let r = again
+        (subst (λ ys. Knows ys a.target (set latest a.source a.target) (one_more m)) (sym (arcs_append body (arc a ∷ []))) (knows_push xs last latest m w a (omega (arith, h.0.core)) h.1))
+        (body_push g body (arc a) l tt (subst (Lawful g) (sym (arcs_append body (arc a ∷ []))) (lawful_push g xs a l.lawful h.0 h.2)))
+        (stood_push g log es (arc a) _ at (stands_here es (arc a) q)) in
+        subst (Judged g log) (sym (one_step (arc a) n seen_is)) r
     on_arc a q again false t =
         let seen_is : look (behind g log es s) ≡ Err (broken 2 g.core c 4) =
         ap (judged g s c) q ∙ ap (λ b. passed (arc a) (cond b (Ok (Among a.target (set latest a.source a.target) (one_more m))) (Err (broken 2 g.core c 4)))) t in
-        refuse g log f es s (broken 2 g.core c 4) front_is at seen_is (refl, refl, bad_arc xs a _ refl (stands_here es (arc a) q) (fails_breaks xs last latest m w a g t))
+        refuse g log f es s (broken 2 g.core c 4) front_is at seen_is (refl, refl, bad_arc body a _ refl (stands_here es (arc a) q) (fails_breaks xs last latest m w a g t))
 
     on_end : (n k : ℕ) → entry_at g.core c (drop c log) ≡ Ok (end n k) → (b : Bool) → (eqb m k && leb last n) ≡ b → Here
     on_end n k q true t =
@@ -139,18 +148,18 @@ module _ (g : Heading) (log : List ℕ) (four : g.cores ≤ 4) (octets : AllByRe
         let low = leb-true last n p.1 in
         let seen_is : look (behind g log es s) ≡ Ok (Some (end n k, After n)) =
         ap (judged g s c) q ∙ ap (λ b. passed (end n k) (cond b (Ok (After n)) (Err (broken 2 g.core c 5)))) t in
-        let step : in_front es (walk look (suc f) (behind g log es s)) ≡ record { entries = whole g xs n; verdict = Ok n } =
+        let step : in_front es (walk look (suc f) (behind g log es s)) ≡ record { entries = whole g body n; verdict = Ok n } =
         ap (in_front es) (walk_some look (behind g log es s) f (end n k) (After n) seen_is
         ∙ ap (prefixed (end n k)) (ap (walk look f) (moved_behind g log es s (After n) (end n k)) ∙ walk_ended g log f (es ++ (end n k ∷ [])) n))
         ∙ (λ i. record { entries = es ++ (end n (number i) ∷ []); verdict = Ok n }) in
         inl (
-          xs,
+          body,
           n,
           step,
           record {
             lawful = l;
             reached = all_map (λ b. b.target ≤ last) (λ b. b.target ≤ n) xs (λ b h. omega arith) w.below;
-            rest = drop (length (written (whole g xs n))) log;
+            rest = drop (length (written (whole g body n))) log;
             bytes = subst (λ k. Stood g log (es ++ (end n k ∷ []))) number (stood_push g log es (end n k) _ at (stands_here es (end n k) q));
           },
         )
@@ -159,30 +168,30 @@ module _ (g : Heading) (log : List ℕ) (four : g.cores ≤ 4) (octets : AllByRe
         let seen_is : look (behind g log es s) ≡ Err (broken 2 g.core c 5) =
         ap (judged g s c) q ∙ ap (λ b. passed (end n k) (cond b (Ok (After n)) (Err (broken 2 g.core c 5)))) t in
         refuse g log f es s (broken 2 g.core c 5) front_is at seen_is
-        (refl, refl, bad_end xs n k _ refl (stands_here es (end n k) q) (bad_ending xs last latest m n k w small (eqb m k) refl (leb last n) refl t))
+        (refl, refl, bad_end body n k _ refl (stands_here es (end n k) q) (bad_ending xs last latest m n k w small (eqb m k) refl (leb last n) refl t))
 
     on_entry : (x : Result Entry Fault) → entry_at g.core c (drop c log) ≡ x →
-        ((a : LogArc) → 7 ≤ length log - c → Knows (xs ++ (a ∷ [])) a.target (set latest a.source a.target) (one_more m) → Lawful g (xs ++ (a ∷ [])) → Stood g log (front g (xs ++ (a ∷ []))) →
-        Judged g log (in_front (front g (xs ++ (a ∷ []))) (walk look f (behind g log (front g (xs ++ (a ∷ []))) (Among a.target (set latest a.source a.target) (one_more m)))))) →
+        ((e : Entry) (last' : ℕ) (latest' : List ℕ) (m' : ℕ) → length (bytes_of e) ≤ length log - c → Knows (arcs_in (body ++ (e ∷ []))) last' latest' m' → Body g (body ++ (e ∷ [])) → Stood g log (front g (body ++ (e ∷ []))) →
+        Judged g log (in_front (front g (body ++ (e ∷ []))) (walk look f (behind g log (front g (body ++ (e ∷ []))) (Among last' latest' m'))))) →
         Here
     on_entry (Err d) q again =
         let b = unread g es g.core c (drop c log) d q in
         refuse g log f es s d front_is at (ap (judged g s c) q) b
     on_entry (Ok (head k p n)) q again =
-        refuse g log f es s (broken 2 g.core c 3) front_is at (ap (judged g s c) q) (refl, refl, head_later xs k p n _ refl (stands_here es (head k p n) q))
+        refuse g log f es s (broken 2 g.core c 3) front_is at (ap (judged g s c) q) (refl, refl, head_later body k p n _ refl (stands_here es (head k p n) q))
     on_entry (Ok (arc a)) q again =
         let fits = entry_fits g.core c (drop c log) (arc a) q in
-        on_arc a q (again a (omega (arith, length-drop c log))) (arc_stands g last latest a.source a.count a.target) refl
+        on_arc a q (again (arc a) a.target (set latest a.source a.target) (one_more m) (omega (arith, length-drop c log))) (arc_stands g last latest a.source a.count a.target) refl
     on_entry (Ok (end n k)) q again = on_end n k q (eqb m k && leb last n) refl
 
-  -- from behind the head and some arcs on
-  read_on : (f : ℕ) (xs : List LogArc) (last : ℕ) (latest : List ℕ) (m : ℕ) → Knows xs last latest m → Lawful g xs → Stood g log (front g xs) → length log - length (written (front g xs)) < f →
-      Judged g log (in_front (front g xs) (walk look f (behind g log (front g xs) (Among last latest m))))
-  read_on zero xs last latest m w l at h = absurd (omega arith)
-  read_on (suc f) xs last latest m w l at h =
-      on_entry f xs last latest m w l at (entry_at g.core (length (written (front g xs))) (drop (length (written (front g xs))) log)) refl
-      (λ a fits w' l' at'. read_on f (xs ++ (a ∷ [])) a.target (set latest a.source a.target) (one_more m) w' l' at'
-      (omega (arith, ap (λ x. length (written x)) (front_push g xs a), push_size g log (front g xs) (arc a))))
+  -- from behind the head and some body on
+  read_on : (f : ℕ) (body : List Entry) (last : ℕ) (latest : List ℕ) (m : ℕ) → Knows (arcs_in body) last latest m → Body g body → Stood g log (front g body) → length log - length (written (front g body)) < f →
+      Judged g log (in_front (front g body) (walk look f (behind g log (front g body) (Among last latest m))))
+  read_on zero body last latest m w l at h = absurd (omega arith)
+  read_on (suc f) body last latest m w l at h =
+      on_entry f body last latest m w l at (entry_at g.core (length (written (front g body))) (drop (length (written (front g body))) log)) refl
+      (λ e last' latest' m' fits w' l' at'. read_on f (body ++ (e ∷ [])) last' latest' m' w' l' at'
+      (omega (arith, push_size g log (front g body) e, size_pos e)))
 
   on_first : (f : ℕ) → length log < suc f → (x : Result Entry Fault) → entry_at g.core 0 log ≡ x → Judged g log (walk look (suc f) (at_front g log))
   on_first f h (Err d) q =
@@ -214,7 +223,7 @@ module _ (g : Heading) (log : List ℕ) (four : g.cores ≤ 4) (octets : AllByRe
           let step : walk look (suc f) (at_front g log) ≡ in_front (front g []) (walk look f (behind g log (front g []) (Among 0 no_targets 0))) =
           walk_some look (at_front g log) f (head k p n) (Among 0 no_targets 0) (seen_is true t)
           ∙ ap (λ e. prefixed e (walk look f (behind g log (front g []) (Among 0 no_targets 0)))) hd in
-          subst (Judged g log) (sym step) (read_on f [] 0 no_targets 0 knows_none tt at (omega arith))
+          subst (Judged g log) (sym step) (read_on f [] 0 no_targets 0 knows_none (record { between = tt; lawful = tt }) at (omega arith))
       by_fields false q₁ b₂ q₂ b₃ q₃ = wrong (ap (λ b. b && (eqb p g.cores && eqb n g.cells)) q₁) (λ e. eqb-false k g.core q₁ cc)
       by_fields true q₁ false q₂ b₃ q₃ = wrong (λ i. q₁ i && (q₂ i && eqb n g.cells)) (λ e. eqb-false p g.cores q₂ cc)
       by_fields true q₁ true q₂ false q₃ = wrong (λ i. q₁ i && (q₂ i && q₃ i)) (λ e. eqb-false n g.cells q₃ cc)

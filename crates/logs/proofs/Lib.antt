@@ -2,7 +2,9 @@ pub mod Going
 pub mod Cores
 pub mod Bytes
 pub mod Rules
+pub mod Arcs
 pub mod Judging
 pub mod Paths
 pub mod Sessions
+pub mod StoreArcs
 pub mod WritingOut

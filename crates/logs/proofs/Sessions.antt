@@ -7,15 +7,16 @@ use Rattle.std.proofs.lemmas.Bool.Decides.{nat_tests}
 use Rattle.records.specs.declared.settings.Heading.{Heading}
 use Rattle.records.specs.declared.settings.Sizes.{Sizes}
 use Rattle.records.specs.Faults.{Fault, bad_setting, log_fault}
-use Rattle.records.specs.Format.{LogArc, Entry, written}
+use Rattle.records.specs.Format.{LogArc, Entry, head, arc, end, written}
 use Rattle.records.specs.Reading.{broken}
 use Rattle.records.specs.Settings.{fits, log_of, heading_of}
-use Rattle.logs.specs.Lawful.{Holds, Within, LogHolds, Broken, Judged, Accepted, FirstFault, in_log, at_source, Exactly, front, whole}
+use Rattle.logs.specs.Lawful.{arcs_in, Holds, Within, LogHolds, Broken, Judged, Accepted, FirstFault, in_log, at_source, Exactly, front, whole}
 use Rattle.logs.specs.Session.{read_log, hold_log, onward, gathered, tested, session, no_counts, outcome, read_session}
 use Rattle.logs.specs.Walk.{Reading}
+use Rattle.logs.proofs.Arcs.{arcs_few}
 use Rattle.logs.proofs.Bytes.{octets_of, octets_take, octets_drop}
 use Rattle.logs.proofs.Judging.{read_judged}
-use Rattle.logs.proofs.Paths.{Held, holds_read, holds_held, holds_few, fewer_arcs}
+use Rattle.logs.proofs.Paths.{Held, holds_read, holds_held, holds_few, fewer_records}
 use Rattle.logs.proofs.Rules.{all_alike}
 
 -- the loop over the logs for layers 1 and 2: all are read, or one has the first fault
@@ -95,23 +96,23 @@ module _ (store : List ℕ) (z : Sizes) where
         go (Ok n) q (inl p) = inl (p.0, λ i h l. elim (cases_eq i j) [ inl same ↦ (n, ap holding same ∙ q) | inr ne ↦ p.1 i (omega arith) l ])
         go (Ok n) q (inr (f, p, o)) = inr (f, p, fails_later holding j f n q o)
 
--- the arcs of a log that was read
-choose : (g : Heading) (log : List ℕ) (r : Reading) → Judged g log r → List LogArc
-choose g log r (inl (arcs, n, q, o)) = arcs
+-- the body of a log that was read
+choose : (g : Heading) (log : List ℕ) (r : Reading) → Judged g log r → List Entry
+choose g log r (inl (body, n, q, o)) = body
 choose g log r (inr _) = []
 
 chosen : (g : Heading) (log : List ℕ) (r : Reading) (w : Judged g log r) (n : ℕ) → r.verdict ≡ Ok n → Holds g log (choose g log r w) n
 unfolding choose
-chosen g log r (inl (arcs, k, q, o)) n e =
+chosen g log r (inl (body, k, q, o)) n e =
     let p : Ok k ≡ Ok n = sym (ap (λ x. x.verdict) q) ∙ e in
     let same : k ≡ n = cc in
-    subst (Holds g log arcs) same o
+    subst (Holds g log body) same o
 chosen g log r (inr (before, f, q, o)) n e =
     let p : Err f ≡ Ok n = sym (ap (λ x. x.verdict) q) ∙ e in
     absurd cc
 
 faulted : (g : Heading) (log : List ℕ) (r : Reading) → Judged g log r → (f : Fault) → r.verdict ≡ Err f → (before : List Entry) × Broken g log before f
-faulted g log r (inl (arcs, k, q, o)) f e =
+faulted g log r (inl (body, k, q, o)) f e =
     let p : Ok k ≡ Err f = sym (ap (λ x. x.verdict) q) ∙ e in
     absurd cc
 faulted g log r (inr (before, d, q, o)) f e =
@@ -130,7 +131,7 @@ module _ (store : List ℕ) (z : Sizes) (octets : AllByRecursion (λ b. b < 256)
   judged_log : (j : ℕ) → Judged (heading_of z j) (log_of store z j) (read_log store z j)
   judged_log j = read_judged (heading_of z j) (log_of store z j) few (log_octets j)
 
-  logged : ℕ → List LogArc
+  logged : ℕ → List Entry
   logged j = choose (heading_of z j) (log_of store z j) (read_log store z j) (judged_log j)
 
   log_holds : (j n : ℕ) → (read_log store z j).verdict ≡ Ok n → Holds (heading_of z j) (log_of store z j) (logged j) n
@@ -138,28 +139,30 @@ module _ (store : List ℕ) (z : Sizes) (octets : AllByRecursion (λ b. b < 256)
   log_holds j n q = chosen (heading_of z j) (log_of store z j) (read_log store z j) (judged_log j) n q
 
   -- a log that holds is read as it says
-  holds_counts : (j : ℕ) (arcs : List LogArc) (n : ℕ) → Holds (heading_of z j) (log_of store z j) arcs n → (read_log store z j).verdict ≡ Ok n
-  holds_counts j arcs n o = ap (λ r. r.verdict) (holds_read (heading_of z j) (log_of store z j) arcs n few (holds_few (heading_of z j) (log_of store z j) arcs n (log_octets j) o) o)
+  holds_counts : (j : ℕ) (body : List Entry) (n : ℕ) → Holds (heading_of z j) (log_of store z j) body n → (read_log store z j).verdict ≡ Ok n
+  holds_counts j body n o = ap (λ r. r.verdict) (holds_read (heading_of z j) (log_of store z j) body n few (holds_few (heading_of z j) (log_of store z j) body n (log_octets j) o) o)
 
-  held_log : (counts : List ℕ) (j : ℕ) (arcs : List LogArc) (n : ℕ) (o : Holds (heading_of z j) (log_of store z j) arcs n) →
-      Held (heading_of z j) (log_of store z j) n (length arcs) counts (hold_log store z counts j).verdict [] arcs
-  held_log counts j arcs n o = holds_held (heading_of z j) (log_of store z j) arcs n few (holds_few (heading_of z j) (log_of store z j) arcs n (log_octets j) o) o counts
+  held_log : (counts : List ℕ) (j : ℕ) (body : List Entry) (n : ℕ) (o : Holds (heading_of z j) (log_of store z j) body n) →
+      Held (heading_of z j) (log_of store z j) n (length (arcs_in body)) counts (hold_log store z counts j).verdict [] body
+  held_log counts j body n o = holds_held (heading_of z j) (log_of store z j) body n few (holds_few (heading_of z j) (log_of store z j) body n (log_octets j) o) o counts
 
-  within_counts : (counts : List ℕ) (j : ℕ) (arcs : List LogArc) (n : ℕ) → Holds (heading_of z j) (log_of store z j) arcs n → (m : ℕ) → (hold_log store z counts j).verdict ≡ Ok m → Within counts arcs
-  within_counts counts j arcs n o m q = elim (held_log counts j arcs n o) [
+  within_counts : (counts : List ℕ) (j : ℕ) (body : List Entry) (n : ℕ) → Holds (heading_of z j) (log_of store z j) body n → (m : ℕ) → (hold_log store z counts j).verdict ≡ Ok m → Within counts (arcs_in body)
+  within_counts counts j body n o m q = elim (held_log counts j body n o) [
     | inl p ↦ p.0
     | inr p ↦ absurd (ok_err m _ (sym q ∙ p.6))
   ]
 
-  counts_within : (counts : List ℕ) (j : ℕ) (arcs : List LogArc) (n : ℕ) → Holds (heading_of z j) (log_of store z j) arcs n → Within counts arcs → (f : Fault) → (hold_log store z counts j).verdict ≡ Err f → ⊥
-  counts_within counts j arcs n o w f q = elim (held_log counts j arcs n o) [
+  counts_within : (counts : List ℕ) (j : ℕ) (body : List Entry) (n : ℕ) → Holds (heading_of z j) (log_of store z j) body n → Within counts (arcs_in body) → (f : Fault) → (hold_log store z counts j).verdict ≡ Err f → ⊥
+  counts_within counts j body n o w f q = elim (held_log counts j body n o) [
     | inl p ↦ ok_err n f (sym p.1 ∙ q)
-    | inr (fr, a, back, split, within, beyond, _) ↦ first_beyond a back fr (subst (Within counts) split w) beyond
+    | inr (fr, a, back, split, within, beyond, _) ↦ first_beyond a back fr (subst (λ x. Within counts (arcs_in x)) split w) beyond
   ]
     where
-      first_beyond : (a : LogArc) (back fr : List LogArc) → Within counts (fr ++ (a ∷ back)) → get_or counts a.source 0 < a.count → ⊥
+      first_beyond : (a : LogArc) (back fr : List Entry) → Within counts (arcs_in (fr ++ (arc a ∷ back))) → get_or counts a.source 0 < a.count → ⊥
       first_beyond a back [] w b = omega (arith, w.0)
-      first_beyond a back (x ∷ fr) w b = first_beyond a back fr w.1 b
+      first_beyond a back (head _ _ _ ∷ fr) w b = first_beyond a back fr w b
+      first_beyond a back (arc x ∷ fr) w b = first_beyond a back fr w.1 b
+      first_beyond a back (end _ _ ∷ fr) w b = first_beyond a back fr w b
 
   -- two counts that the logs agree with are one
   one_count : (xs ys : List ℕ) → length xs ≡ 4 → length ys ≡ 4 → ((j : ℕ) → j < z.cores → (read_log store z j).verdict ≡ Ok (get_or xs j 0)) → ((j : ℕ) → j < z.cores → (read_log store z j).verdict ≡ Ok (get_or ys j 0)) →
@@ -175,7 +178,7 @@ module _ (store : List ℕ) (z : Sizes) (octets : AllByRecursion (λ b. b < 256)
       ⊎ ((f : Fault) × (r ≡ Err f) × FirstFault store z f × ((xs : List ℕ) → Accepted store z xs → ⊥))
 
   accepted_counts : (xs : List ℕ) → Accepted store z xs → (j : ℕ) → j < z.cores → (read_log store z j).verdict ≡ Ok (get_or xs j 0)
-  accepted_counts xs w j h = holds_counts j (w.arcs j) (get_or xs j 0) (w.holds j h)
+  accepted_counts xs w j h = holds_counts j (w.bodies j) (get_or xs j 0) (w.holds j h)
 
   -- layers 1 and 2 passed, with these counts
   module _ (found : List ℕ) (o : AllRead store z 0 no_counts found) where
@@ -197,7 +200,7 @@ module _ (store : List ℕ) (z : Sizes) (octets : AllByRecursion (λ b. b < 256)
           found,
           ap (λ r. onward r (λ _. Ok found)) q,
           record {
-            arcs = logged;
+            bodies = logged;
             holds = holds;
             sources = λ j h. let v = p j (omega arith) h in within_counts found j (logged j) (get_or found j 0) (holds j h) v.0 v.1;
             four = o.size;
@@ -210,10 +213,10 @@ module _ (store : List ℕ) (z : Sizes) (octets : AllByRecursion (λ b. b < 256)
           f,
           ap (λ r. onward r (λ _. Ok found)) q,
           beyond (held_log found w.core (logged w.core) (get_or found w.core 0) (holds w.core w.inside)),
-          λ xs a. let e = same xs a in counts_within found w.core (a.arcs w.core) (get_or xs w.core 0) (a.holds w.core w.inside) (subst (λ c. Within c (a.arcs w.core)) e (a.sources w.core w.inside)) f w.fails,
+          λ xs a. let e = same xs a in counts_within found w.core (a.bodies w.core) (get_or xs w.core 0) (a.holds w.core w.inside) (subst (λ c. Within c (arcs_in (a.bodies w.core))) e (a.sources w.core w.inside)) f w.fails,
         )
       where
-        beyond : Held (heading_of z w.core) (log_of store z w.core) (get_or found w.core 0) (length (logged w.core)) found (hold_log store z found w.core).verdict [] (logged w.core) → FirstFault store z f
+        beyond : Held (heading_of z w.core) (log_of store z w.core) (get_or found w.core 0) (length (arcs_in (logged w.core))) found (hold_log store z found w.core).verdict [] (logged w.core) → FirstFault store z f
         beyond (inl p) = absurd (ok_err (get_or found w.core 0) f (sym p.1 ∙ w.fails))
         beyond (inr (fr, a, back, split, within, far, v)) =
             let e : broken 3 w.core (length (written (front (heading_of z w.core) fr))) 6 ≡ f = let p : Err (broken 3 w.core (length (written (front (heading_of z w.core) fr))) 6) ≡ Err f = sym v ∙ w.fails in cc in
@@ -257,10 +260,10 @@ pub few_cores : (bytes : ℕ) (z : Sizes) → fits bytes z ≡ true → z.cores 
 few_cores bytes z q = grind (arith, nat_tests)
 
 -- a log in a store that the sizes fit has no more arcs than its end record can say
-pub few_arcs : (store : List ℕ) (z : Sizes) → fits (length store) z ≡ true → (j : ℕ) (arcs : List LogArc) (n : ℕ) → Holds (heading_of z j) (log_of store z j) arcs n → length arcs ≤ 65535
-few_arcs store z t j arcs n o =
+pub few_arcs : (store : List ℕ) (z : Sizes) → fits (length store) z ≡ true → (j : ℕ) (body : List Entry) (n : ℕ) → Holds (heading_of z j) (log_of store z j) body n → length (arcs_in body) ≤ 65535
+few_arcs store z t j body n o =
     let short : z.log_bytes ≤ 16384 = grind (arith, nat_tests) in
-    omega (arith, length-take z.log_bytes (drop (j * z.log_bytes) store), ap length o.bytes, length-append (written (whole (heading_of z j) arcs n)) o.rest, fewer_arcs arcs n (length arcs))
+    omega (arith, length-take z.log_bytes (drop (j * z.log_bytes) store), ap length o.bytes, length-append (written (whole (heading_of z j) body n)) o.rest, fewer_records body n (length (arcs_in body)), arcs_few body)
 
 module _ (store : List ℕ) (z : Sizes) (octets : AllByRecursion (λ b. b < 256) store) where
   when_fits : (few : z.cores ≤ 4) (r : Result (List ℕ) Fault) → Sessioned store z octets few r → fits (length store) z ≡ true → Exactly store z (outcome r)

@@ -6,7 +6,7 @@ use Rattle.std.specs.List.{AllByRecursion}
 use Rattle.records.specs.declared.settings.Sizes.{Sizes}
 use Rattle.records.specs.Faults.{Fault, bad_setting}
 use Rattle.records.specs.Format.{Entry, bytes_of, written, splice}
-use Rattle.records.specs.Settings.{fits, log_of, heading_of}
+use Rattle.records.specs.Settings.{least_opened, fits, log_of, heading_of}
 use Rattle.records.specs.Writing.{Wrote, write_at}
 use Rattle.records.proofs.Splices.{splice_none, splice_splice, length_splice, take_front, drop_behind, drop_within, take_within}
 use Rattle.logs.specs.Lawful.{Accepted, whole}
@@ -88,12 +88,12 @@ module _ (z : Sizes) (j : ℕ) (bs out : List ℕ) (room : length bs ≤ z.log_b
 -- an accepted session, log by log
 module _ (store : List ℕ) (z : Sizes) (octets : AllByRecursion (λ b. b < 256) store) (few : z.cores ≤ 4) (counts : List ℕ) (a : Accepted store z counts) where
   abbrev bytes : ℕ → List ℕ
-  bytes j = written (whole (heading_of z j) (a.arcs j) (get_or counts j 0))
+  bytes j = written (whole (heading_of z j) (a.bodies j) (get_or counts j 0))
 
-  entries_are : (j : ℕ) → j < z.cores → (read_log store z j).entries ≡ whole (heading_of z j) (a.arcs j) (get_or counts j 0)
+  entries_are : (j : ℕ) → j < z.cores → (read_log store z j).entries ≡ whole (heading_of z j) (a.bodies j) (get_or counts j 0)
   entries_are j h =
       let o = a.holds j h in
-      ap (λ r. r.entries) (holds_read (heading_of z j) (log_of store z j) (a.arcs j) (get_or counts j 0) few (holds_few (heading_of z j) (log_of store z j) (a.arcs j) (get_or counts j 0) (log_octets store z octets few j) o) o)
+      ap (λ r. r.entries) (holds_read (heading_of z j) (log_of store z j) (a.bodies j) (get_or counts j 0) few (holds_few (heading_of z j) (log_of store z j) (a.bodies j) (get_or counts j 0) (log_octets store z octets few j) o) o)
 
   bytes_fit : (j : ℕ) → j < z.cores → length (bytes j) ≤ z.log_bytes
   bytes_fit j h =
@@ -118,7 +118,7 @@ module _ (store : List ℕ) (z : Sizes) (octets : AllByRecursion (λ b. b < 256)
       let mid = splice (j * L + 0) (bytes j) out in
       let size = length_splice (j * L + 0) (bytes j) out (omega arith) in
       let now_is : copied z j 0 (read_log store z j).entries out ≡ mid =
-      ap (λ es. copied z j 0 es out) (entries_are j h) ∙ copied_is z j (whole (heading_of z j) (a.arcs j) (get_or counts j 0)) out 0 f h inside (omega arith) in
+      ap (λ es. copied z j 0 es out) (entries_are j h) ∙ copied_is z j (whole (heading_of z j) (a.bodies j) (get_or counts j 0)) out 0 f h inside (omega arith) in
       let p = put k (j + 1) mid (omega arith) (ap (λ n. fits n z) size ∙ f) (omega arith) in
       subst (Put j out) (sym (copied_next store z j out k ∙ ap (all_copied store z k (j + 1)) now_is)) (record {
         size = p.size ∙ size;
@@ -136,7 +136,7 @@ module _ (store : List ℕ) (z : Sizes) (octets : AllByRecursion (λ b. b < 256)
       let p = put z.cores 0 out (omega arith) f room in
       record {
         counts = counts;
-        arcs = a.arcs;
+        bodies = a.bodies;
         holds = a.holds;
         bytes = λ j h.
             p.here j (omega arith) h
@@ -150,7 +150,7 @@ room_in bytes z q =
     let p₂ = (and_parts (leb z.cores 4) _ p₁).1 in
     let p₃ = (and_parts (leb 1 z.cells) _ p₂).1 in
     let p₄ = (and_parts (leb z.cells 256) _ p₃).1 in
-    let p₅ = (and_parts (leb 12 z.log_bytes) _ p₄).1 in
+    let p₅ = (and_parts (leb least_opened z.log_bytes) _ p₄).1 in
     let p₆ = (and_parts (leb z.log_bytes 16384) _ p₅).1 in
     leb-true (z.cores * z.log_bytes) bytes p₆
 

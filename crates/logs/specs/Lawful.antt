@@ -1,5 +1,5 @@
 -- The rules of a log, and of all logs together, in words: relations on records and those before them.
-use Rattle.std.specs.Prelude.{◌≡◌, ℕ, ◌<◌, ◌≤◌, true, false, ◌⊎◌, List, [], ◌∷◌, ◌++◌, map, length, Ok, Err, ◌≢◌, slice_index}
+use Rattle.std.specs.Prelude.{◌≡◌, ℕ, ◌<◌, ◌≤◌, true, false, ◌⊎◌, List, [], ◌∷◌, ◌++◌, length, Ok, Err, ◌≢◌, slice_index}
 use Rattle.std.specs.List.{AllByRecursion}
 use Rattle.records.specs.declared.settings.Sizes.{Sizes}
 use Rattle.records.specs.declared.settings.Heading.{Heading}
@@ -30,20 +30,38 @@ abbrev pub Lawful : Heading → List LogArc → Type 0
 Lawful g [] = Unit {0}
 Lawful g (a ∷ more) = Stands g a × AllByRecursion (Behind a) more × Lawful g more
 
--- a head with the right fields, then arcs
-abbrev pub front : Heading → List LogArc → List Entry
-front g arcs = head g.core g.cores g.cells ∷ map arc arcs
+-- what may stand between head and end: arcs
+abbrev pub Between : Entry → Type 0
+Between (head core cores cells) = ⊥
+Between (arc a) = Unit {0}
+Between (end instructions arcs) = ⊥
+
+-- the arcs of a body, in their order
+abbrev pub arcs_in : List Entry → List LogArc
+arcs_in [] = []
+arcs_in (head core cores cells ∷ more) = arcs_in more
+arcs_in (arc a ∷ more) = a ∷ arcs_in more
+arcs_in (end instructions arcs ∷ more) = arcs_in more
+
+-- a head with the right fields, then a body
+abbrev pub front : Heading → List Entry → List Entry
+front g body = head g.core g.cores g.cells ∷ body
 
 -- and an end with the right numbers
-abbrev pub whole : Heading → List LogArc → ℕ → List Entry
-whole g arcs n = front g arcs ++ (end n (length arcs) ∷ [])
+abbrev pub whole : Heading → List Entry → ℕ → List Entry
+whole g body n = front g body ++ (end n (length (arcs_in body)) ∷ [])
 
--- the bytes are a log of these arcs and n instructions, then anything
-pub record Holds (g : Heading) (log : List ℕ) (arcs : List LogArc) (n : ℕ) : Type 0 where
-  pub lawful : Lawful g arcs
-  pub reached : AllByRecursion (λ a. a.target ≤ n) arcs
+-- a body whose arcs obey the rules
+pub record Body (g : Heading) (body : List Entry) : Type 0 where
+  pub between : AllByRecursion Between body
+  pub lawful : Lawful g (arcs_in body)
+
+-- the bytes are a log of this body and n instructions, then anything
+pub record Holds (g : Heading) (log : List ℕ) (body : List Entry) (n : ℕ) : Type 0 where
+  pub lawful : Body g body
+  pub reached : AllByRecursion (λ a. a.target ≤ n) (arcs_in body)
   pub rest : List ℕ
-  pub bytes : log ≡ written (whole g arcs n) ++ rest
+  pub bytes : log ≡ written (whole g body n) ++ rest
 
 -- the three marks, each with the bytes of its record
 pub data Marks : ℕ → ℕ → ℕ → Type 0 where
@@ -71,13 +89,13 @@ pub data Breaks (g : Heading) (before : List Entry) (rest : List ℕ) : ℕ → 
   cut : (x y size : ℕ) (more : List ℕ) → Marks x y size → rest ≡ x ∷ y ∷ more → length rest < size → Breaks g before rest 1 1
   unknown_mark : (x y : ℕ) (more : List ℕ) → rest ≡ x ∷ y ∷ more → ((size : ℕ) → Marks x y size → ⊥) → Breaks g before rest 1 2
   no_head : (e : Entry) (more : List ℕ) → before ≡ [] → rest ≡ bytes_of e ++ more → (e ≢ head g.core g.cores g.cells) → Breaks g before rest 2 3
-  head_later : (arcs : List LogArc) (c p n : ℕ) (more : List ℕ) → before ≡ front g arcs → rest ≡ bytes_of (head c p n) ++ more → Breaks g before rest 2 3
-  bad_arc : (arcs : List LogArc) (a : LogArc) (more : List ℕ) → before ≡ front g arcs → rest ≡ bytes_of (arc a) ++ more → BadArc g arcs a → Breaks g before rest 2 4
-  bad_end : (arcs : List LogArc) (n k : ℕ) (more : List ℕ) → before ≡ front g arcs → rest ≡ bytes_of (end n k) ++ more → BadEnd arcs n k → Breaks g before rest 2 5
+  head_later : (body : List Entry) (c p n : ℕ) (more : List ℕ) → before ≡ front g body → rest ≡ bytes_of (head c p n) ++ more → Breaks g before rest 2 3
+  bad_arc : (body : List Entry) (a : LogArc) (more : List ℕ) → before ≡ front g body → rest ≡ bytes_of (arc a) ++ more → BadArc g (arcs_in body) a → Breaks g before rest 2 4
+  bad_end : (body : List Entry) (n k : ℕ) (more : List ℕ) → before ≡ front g body → rest ≡ bytes_of (end n k) ++ more → BadEnd (arcs_in body) n k → Breaks g before rest 2 5
 
 -- every record before the fault is lawful
 abbrev pub Front : Heading → List Entry → Type 0
-Front g before = (before ≡ []) ⊎ ((arcs : List LogArc) × (before ≡ front g arcs) × Lawful g arcs)
+Front g before = (before ≡ []) ⊎ ((body : List Entry) × (before ≡ front g body) × Body g body)
 
 -- the first fault of a log, behind the records `before`
 pub record Broken (g : Heading) (log : List ℕ) (before : List Entry) (f : Fault) : Type 0 where
@@ -92,32 +110,32 @@ pub record Broken (g : Heading) (log : List ℕ) (before : List Entry) (f : Faul
 abbrev pub Within : List ℕ → List LogArc → Type 0
 Within counts arcs = AllByRecursion (λ a. a.count ≤ slice_index counts a.source) arcs
 
--- core j's log holds these arcs, and as many instructions as counted
-abbrev pub LogHolds : List ℕ → Sizes → List ℕ → (ℕ → List LogArc) → ℕ → Type 0
-LogHolds store z counts arcs j = Holds (heading_of z j) (log_of store z j) (arcs j) (slice_index counts j)
+-- core j's log holds this body, and as many instructions as counted
+abbrev pub LogHolds : List ℕ → Sizes → List ℕ → (ℕ → List Entry) → ℕ → Type 0
+LogHolds store z counts bodies j = Holds (heading_of z j) (log_of store z j) (bodies j) (slice_index counts j)
 
 -- the logs of a session, each core's instructions as counted, and 0 for a core that the session has not
 pub record Accepted (store : List ℕ) (z : Sizes) (counts : List ℕ) : Type 0 where
-  pub arcs : ℕ → List LogArc
-  pub holds : (j : ℕ) → j < z.cores → LogHolds store z counts arcs j
-  pub sources : (j : ℕ) → j < z.cores → Within counts (arcs j)
+  pub bodies : ℕ → List Entry
+  pub holds : (j : ℕ) → j < z.cores → LogHolds store z counts bodies j
+  pub sources : (j : ℕ) → j < z.cores → Within counts (arcs_in (bodies j))
   pub four : length counts ≡ 4
   pub others : (j : ℕ) → z.cores ≤ j → slice_index counts j ≡ 0
 
 -- the first fault of a session: of layers 1 and 2, every log before it holds; of layer 3, all logs hold, and every arc before it comes from within
 pub data FirstFault (store : List ℕ) (z : Sizes) : Fault → Type 0 where
   in_log : (j : ℕ) (before : List Entry) (f : Fault) → j < z.cores →
-      ((i : ℕ) → i < j → (arcs : List LogArc) × (n : ℕ) × Holds (heading_of z i) (log_of store z i) arcs n) →
+      ((i : ℕ) → i < j → (body : List Entry) × (n : ℕ) × Holds (heading_of z i) (log_of store z i) body n) →
       Broken (heading_of z j) (log_of store z j) before f → FirstFault store z f
-  at_source : (counts : List ℕ) (arcs : ℕ → List LogArc) (j : ℕ) (before : List LogArc) (a : LogArc) (behind : List LogArc) → j < z.cores →
-      ((i : ℕ) → i < z.cores → LogHolds store z counts arcs i) → ((i : ℕ) → i < j → Within counts (arcs i)) →
-      arcs j ≡ before ++ (a ∷ behind) → Within counts before → slice_index counts a.source < a.count →
+  at_source : (counts : List ℕ) (bodies : ℕ → List Entry) (j : ℕ) (before : List Entry) (a : LogArc) (behind : List Entry) → j < z.cores →
+      ((i : ℕ) → i < z.cores → LogHolds store z counts bodies i) → ((i : ℕ) → i < j → Within counts (arcs_in (bodies i))) →
+      bodies j ≡ before ++ (arc a ∷ behind) → Within counts (arcs_in before) → slice_index counts a.source < a.count →
       FirstFault store z (broken 3 j (length (written (front (heading_of z j) before))) 6)
 
 -- what reading a log gives: all its records and instructions, or the records before the first fault
 abbrev pub Judged : Heading → List ℕ → Reading → Type 0
 Judged g log r =
-    ((arcs : List LogArc) × (n : ℕ) × (r ≡ record { entries = whole g arcs n; verdict = Ok n }) × Holds g log arcs n)
+    ((body : List Entry) × (n : ℕ) × (r ≡ record { entries = whole g body n; verdict = Ok n }) × Holds g log body n)
     ⊎ ((before : List Entry) × (f : Fault) × (r ≡ record { entries = before; verdict = Err f }) × Broken g log before f)
 
 -- what reading all logs may say, in words: accepted exactly if the logs hold, refused with 9 only for the first fault, and with 8 exactly if the sizes do not fit

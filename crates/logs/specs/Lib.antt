@@ -1,5 +1,6 @@
 pub mod Walk
 pub mod Session
+pub mod Arcs
 pub mod Lawful
 pub mod WriteOut
 pub mod RoundTrip

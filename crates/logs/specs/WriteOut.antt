@@ -2,7 +2,7 @@
 use Rattle.std.specs.Prelude.{◌≡◌, ℕ, zero, suc, ◌+◌, ◌*◌, ◌<◌, cond, ◌&&◌, List, [], ◌∷◌, ◌++◌, length, take, drop, Ok, Err, Result, slice_index}
 use Rattle.records.specs.declared.settings.Sizes.{Sizes}
 use Rattle.records.specs.Faults.{Fault, bad_setting, log_fault}
-use Rattle.records.specs.Format.{LogArc, Entry, bytes_of, written}
+use Rattle.records.specs.Format.{Entry, bytes_of, written}
 use Rattle.records.specs.Settings.{fits, log_of, heading_of}
 use Rattle.records.specs.Writing.{Wrote, write_at}
 use Rattle.logs.specs.Lawful.{whole, LogHolds}
@@ -28,14 +28,14 @@ write_session store z out =
     cond (fits (length out) z && fits (length store) z) (copying store z out (session store z)) (record { says = bad_setting; store = out })
 
 -- how many bytes a log has up to its end
-abbrev pub log_size : Sizes → List ℕ → (ℕ → List LogArc) → ℕ → ℕ
-log_size z counts arcs j = length (written (whole (heading_of z j) (arcs j) (slice_index counts j)))
+abbrev pub log_size : Sizes → List ℕ → (ℕ → List Entry) → ℕ → ℕ
+log_size z counts bodies j = length (written (whole (heading_of z j) (bodies j) (slice_index counts j)))
 
 -- each log has its old bytes up to its end, and the output's own behind it; so has what is behind all logs
 pub record Restored (store : List ℕ) (z : Sizes) (out after : List ℕ) : Type 0 where
   pub counts : List ℕ
-  pub arcs : ℕ → List LogArc
-  pub holds : (j : ℕ) → j < z.cores → LogHolds store z counts arcs j
+  pub bodies : ℕ → List Entry
+  pub holds : (j : ℕ) → j < z.cores → LogHolds store z counts bodies j
   pub bytes : (j : ℕ) → j < z.cores →
-      log_of after z j ≡ take (log_size z counts arcs j) (log_of store z j) ++ drop (log_size z counts arcs j) (log_of out z j)
+      log_of after z j ≡ take (log_size z counts bodies j) (log_of store z j) ++ drop (log_size z counts bodies j) (log_of out z j)
   pub surplus : drop (z.cores * z.log_bytes) after ≡ drop (z.cores * z.log_bytes) out

@@ -3,11 +3,10 @@ use Rattle.std.proofs.Common.{◌≡◌, ℕ, ◌+◌, ◌-◌, ◌*◌, ◌<◌
 use Rattle.std.proofs.lemmas.List.{append_assoc, length-append, length-drop, drop-drop, drop_at, take_at}
 use Rattle.std.proofs.lemmas.Bool.{cases_order}
 use Rattle.logs.proofs.Judging.{written_append}
-use Rattle.logs.specs.Lawful.{front, whole}
+use Rattle.logs.specs.Lawful.{arcs_in, front, whole}
 use Rattle.recorder.proofs.Rooms.{log_inside}
-use Rattle.recorder.proofs.Trails.{arcs_append}
 use Rattle.records.proofs.Splices.{take_front, drop_behind, drop_within, take_within}
-use Rattle.records.specs.Format.{LogArc, head, arc, end, bytes_of, written, splice}
+use Rattle.records.specs.Format.{LogArc, Entry, head, arc, end, bytes_of, written, splice}
 use Rattle.records.specs.Settings.{log_of}
 use Rattle.records.specs.declared.settings.Heading.{Heading}
 use Rattle.records.specs.declared.settings.Sizes.{Sizes}
@@ -65,16 +64,19 @@ overlay F es bs rest h =
     ∙ ap (λ q. q ++ (bs ++ drop (length F + length bs) (F ++ (es ++ rest)))) (take_at F (es ++ rest) (length F) refl)
     ∙ ap (λ q. F ++ (bs ++ q)) far
 
-arcs_bytes : (arcs : List LogArc) → length (written (map arc arcs)) ≡ 7 * length arcs
-arcs_bytes [] = refl
-arcs_bytes (a ∷ more) = omega (arith, arcs_bytes more, length-append (bytes_of (arc a)) (written (map arc more)))
+-- a body takes at least the bytes of its arcs
+body_bytes : (body : List Entry) → 7 * length (arcs_in body) ≤ length (written body)
+body_bytes [] = omega arith
+body_bytes (head i p n ∷ more) = omega (arith, body_bytes more, length-append (bytes_of (head i p n)) (written more))
+body_bytes (arc a ∷ more) = omega (arith, body_bytes more, length-append (bytes_of (arc a)) (written more))
+body_bytes (end n k ∷ more) = omega (arith, body_bytes more, length-append (bytes_of (end n k)) (written more))
 
 module _ (g : Heading) where
-  pub whole_bytes : (arcs : List LogArc) (n : ℕ) → written (whole g arcs n) ≡ written (front g arcs) ++ bytes_of (end n (length arcs))
-  whole_bytes arcs n = written_append (front g arcs) (end n (length arcs) ∷ [])
+  pub whole_bytes : (body : List Entry) (n : ℕ) → written (whole g body n) ≡ written (front g body) ++ bytes_of (end n (length (arcs_in body)))
+  whole_bytes body n = written_append (front g body) (end n (length (arcs_in body)) ∷ [])
 
-  pub front_bytes : (arcs : List LogArc) → length (written (front g arcs)) ≡ 6 + 7 * length arcs
-  front_bytes arcs = omega (arith, arcs_bytes arcs)
+  pub front_bytes : (body : List Entry) → 6 + 7 * length (arcs_in body) ≤ length (written (front g body))
+  front_bytes body = omega (arith, body_bytes body)
 
-  pub front_more : (arcs new : List LogArc) → written (front g (arcs ++ new)) ≡ written (front g arcs) ++ written (map arc new)
-  front_more arcs new = ap (λ bs. bytes_of (head g.core g.cores g.cells) ++ bs) (arcs_append arcs new)
+  pub front_more : (body : List Entry) (new : List LogArc) → written (front g (body ++ map arc new)) ≡ written (front g body) ++ written (map arc new)
+  front_more body new = written_append (front g body) (map arc new)

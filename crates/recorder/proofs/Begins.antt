@@ -7,15 +7,15 @@ use Rattle.records.specs.declared.settings.Sizes.{Sizes}
 use Rattle.reducers.specs.Numbers.{Numbers, zeros}
 use Rattle.recorder.specs.Refusals.{Book, started}
 use Rattle.recorder.specs.Turns.{Tape, Begun, begun, headed_from}
-use Rattle.records.specs.Settings.{settled}
+use Rattle.records.specs.Settings.{can_begin}
 
 module _ (z : Sizes) (cores cells : ℕ) (t : Tape) where
-  pub begun_refused : settled z cores cells (length t.store) ≡ false → ◌≡◌ {A = Begun} (record { says = 8 ∷ []; leaves = t }) (begun z cores cells t)
+  pub begun_refused : can_begin z cores cells (length t.store) ≡ false → ◌≡◌ {A = Begun} (record { says = 8 ∷ []; leaves = t }) (begun z cores cells t)
   unfolding begun
   begun_refused e = sym (cond-false _ _ _ e)
 
   pub begun_done : (store : List ℕ) (b : Book) (history : List CellHistory) (n : Numbers) →
-      settled z cores cells (length t.store) ≡ true → store ≡ headed_from z z.cores 0 t.store → b ≡ started z → history ≡ replicate 256 untouched → n ≡ zeros →
+      can_begin z cores cells (length t.store) ≡ true → store ≡ headed_from z z.cores 0 t.store → b ≡ started z → history ≡ replicate 256 untouched → n ≡ zeros →
       ◌≡◌ {A = Begun} (record { says = 0 ∷ []; leaves = record { store = store; book = b; history = history; numbers = n } }) (begun z cores cells t)
   unfolding begun
   begun_done store b history n e p q r u =

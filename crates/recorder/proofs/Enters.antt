@@ -5,7 +5,7 @@ use Rattle.accesses.specs.declared.history.CellHistory.{CellHistory}
 use Rattle.cores.specs.declared.interface.Request.{Request}
 use Rattle.logs.proofs.Judging.{written_append}
 use Rattle.records.proofs.Splices.{splice_none}
-use Rattle.records.specs.Format.{Entry, arc, end, bytes_of, written, splice}
+use Rattle.records.specs.Format.{Entry, arc, end, bytes_of, end_size, written, splice}
 use Rattle.records.specs.Settings.{fits}
 use Rattle.records.specs.declared.settings.Sizes.{Sizes}
 use Rattle.reducers.specs.Numbers.{Numbers, Meets}
@@ -35,9 +35,9 @@ module _ (meets : Meets) (t : Tape) (j : ℕ) (request : Request) where
 
   -- the end record fits behind the arcs, and they behind the head
   pub behind_fits : (n' : Numbers) (behind : Tail) (store2 : List ℕ) (bytes : ℕ) → barred t.book j request ≡ 0 → fits bytes t.book.sizes ≡ true → j < t.book.sizes.cores →
-      6 + 7 * (log_in t.book j).arcs ≤ (log_in t.book j).end → (log_in t.book j).end + 6 ≤ t.book.sizes.log_bytes →
+      6 + 7 * (log_in t.book j).arcs ≤ (log_in t.book j).end → (log_in t.book j).end + end_size ≤ t.book.sizes.log_bytes →
       Accessed meets t.book.sizes t.history (next_access t.book j) (touched request) t.numbers n' before t.store behind store2 →
-      (behind.offset + 6 ≤ t.book.sizes.log_bytes) × (6 + 7 * behind.arcs ≤ behind.offset)
+      (behind.offset + end_size ≤ t.book.sizes.log_bytes) × (6 + 7 * behind.arcs ≤ behind.offset)
   behind_fits n' behind store2 bytes e q here under inside f =
       let xs = candidates_for t.book.sizes.cores t.history j (touched request) in
       let size = arcs_size (next_access t.book j) t.numbers xs f.trail in

@@ -11,8 +11,8 @@ use Rattle.accesses.specs.declared.history.CellHistory.{CellHistory}
 use Rattle.cores.specs.declared.interface.Request.{Request}
 pub use Rattle.logs.proofs.WritingOut.{log_inside}
 use Rattle.records.proofs.Splices.{splice_splice}
-use Rattle.records.specs.Format.{head, arc, end, bytes_of, written, splice}
-use Rattle.records.specs.Settings.{fits}
+use Rattle.records.specs.Format.{head, arc, end, bytes_of, end_size, written, splice}
+use Rattle.records.specs.Settings.{least_opened, fits, free_behind}
 use Rattle.records.specs.declared.settings.Sizes.{Sizes}
 use Rattle.reducers.specs.Numbers.{Numbers}
 use Rattle.recorder.specs.Judged.{fresh, arcs_to}
@@ -26,7 +26,7 @@ use Rattle.recorder.proofs.Trails.{fresh_few, arcs_append}
 pub record Fitting (bytes : ℕ) (z : Sizes) : Type 0 where
   pub few : z.cores ≤ 4
   pub cells : z.cells ≤ 256
-  pub long : 12 ≤ z.log_bytes
+  pub long : least_opened ≤ z.log_bytes
   pub short : z.log_bytes ≤ 16384
   pub all : z.cores * z.log_bytes ≤ bytes
 
@@ -54,20 +54,20 @@ arcs_size by n (x ∷ xs) (m ∷ ms) =
 module _ (b : Book) (j : ℕ) (request : Request) (e : barred b j request ≡ 0) where
   -- so many arcs fit as there are candidates, and the end record behind them
   pub turn_fits : (history : List CellHistory) (bytes : ℕ) → fits bytes b.sizes ≡ true → j < b.sizes.cores →
-      6 + 7 * (log_in b j).arcs ≤ (log_in b j).end → (log_in b j).end + 6 ≤ b.sizes.log_bytes →
+      6 + 7 * (log_in b j).arcs ≤ (log_in b j).end → (log_in b j).end + end_size ≤ b.sizes.log_bytes →
       (k : ℕ) → k ≤ present (candidates_for b.sizes.cores history j (touched request)) →
-      ((log_in b j).end + 7 * k + 6 ≤ b.sizes.log_bytes) × ((log_in b j).arcs + 3 ≤ 65535)
+      ((log_in b j).end + 7 * k + end_size ≤ b.sizes.log_bytes) × ((log_in b j).arcs + 3 ≤ 65535)
   turn_fits history bytes f here behind inside k h =
       let z = fitting bytes b.sizes f in
       let room = go (touched request) (unbarred b j request e).roomy in
       (omega (arith, room, h), omega (arith, z.short))
     where
       go : (o : Option Touch) → full b j o ≡ false →
-          (log_in b j).end + 6 + 7 * present (candidates_for b.sizes.cores history j o) ≤ b.sizes.log_bytes
+          (log_in b j).end + end_size + 7 * present (candidates_for b.sizes.cores history j o) ≤ b.sizes.log_bytes
       go None q = omega arith
       go (Some t) q =
           let z = fitting bytes b.sizes f in
-          let g = ltb-false (b.sizes.log_bytes - ((log_in b j).end + 6)) (7 * (b.sizes.cores - 1)) q in
+          let g = ltb-false (free_behind b.sizes (log_in b j).end) (7 * (b.sizes.cores - 1)) q in
           let m = candidates_few b.sizes.cores history t.cell j t.kind z.few here in
           omega (arith, g, m)
 

@@ -3,6 +3,7 @@ use Rattle.std.specs.Prelude.{ℕ, ◌+◌, ◌-◌, ◌*◌, Bool, true, false,
 use Rattle.cores.specs.Acting.{within}
 use Rattle.cores.specs.declared.interface.Request.{Request}
 use Rattle.cores.specs.declared.interface.Request.TheVariants.{Halt, Local, Read, Write, Exchange}
+use Rattle.records.specs.Settings.{free_behind}
 use Rattle.records.specs.declared.settings.Sizes.{Sizes}
 use Rattle.reducers.specs.declared.interface.AccessKind.TheVariants.{Read as reads, Write as writes}
 use Rattle.recorder.specs.declared.ledger.Ledger.{Ledger}
@@ -55,7 +56,7 @@ log_in b j = slice_index_or b.logs j no_log
 -- an access, with fewer bytes behind the end record than one arc from each other core takes
 abbrev pub full : Book → ℕ → Option Touch → Bool
 full b j None = false
-full b j (Some t) = nat_lt (b.sizes.log_bytes - ((log_in b j).end + 6)) (7 * (b.sizes.cores - 1))
+full b j (Some t) = nat_lt (free_behind b.sizes (log_in b j).end) (7 * (b.sizes.cores - 1))
 
 -- halted, count spent, no such cell, log full, in this order
 abbrev pub barred : Book → ℕ → Request → ℕ

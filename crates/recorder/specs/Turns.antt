@@ -9,7 +9,7 @@ use Rattle.cores.specs.Memory.{Rules, brought, stored}
 use Rattle.cores.specs.declared.interface.Request.{Request}
 use Rattle.logs.specs.Lawful.{whole}
 use Rattle.records.specs.Format.{LogArc, arc, end, written, splice}
-use Rattle.records.specs.Settings.{heading_of, settled}
+use Rattle.records.specs.Settings.{heading_of, settled, can_begin}
 use Rattle.records.specs.declared.settings.Sizes.{Sizes}
 use Rattle.reducers.specs.Calls.{notes, Does}
 use Rattle.reducers.specs.Numbers.{Numbers, Meets, zeros}
@@ -177,6 +177,6 @@ begun_said (Err r) = number_of r ∷ []
 -- begin with sizes, over so many cores and cells
 unfoldable pub begun : Sizes → ℕ → ℕ → Tape → Begun
 begun z cores cells t =
-    cond (settled z cores cells (length t.store))
+    cond (can_begin z cores cells (length t.store))
     (record { says = 0 ∷ []; leaves = fresh_tape z (headed_from z z.cores 0 t.store) })
     (record { says = 8 ∷ []; leaves = t })

@@ -1,7 +1,7 @@
 // What goes into a log for one access.
 ghost use Rattle.std.specs.Prelude.{◌≡◌, ◌+◌, ◌*◌, ◌<◌, ◌≤◌, true, map, length};
 ghost use Rattle.accesses.specs.Histories.{one, present};
-ghost use Rattle.records.specs.Format.{entry, arc as arc_entry, end as end_entry, bytes_of, written, splice};
+ghost use Rattle.records.specs.Format.{entry, arc as arc_entry, end as end_entry, bytes_of, end_size, written, splice};
 ghost use Rattle.records.specs.Settings.{fits};
 ghost use Rattle.recorder.specs.Judged.{Steps, fresh, moved, Logged};
 ghost use Rattle.recorder.specs.Refusals.{touched};
@@ -52,7 +52,7 @@ impl CoreLog<'_> {
 
     // Writes the end record: as many instructions as the latest one's count.
     pub(crate) fn end(&mut self)
-        requires room { self.old.tail.offset + 6 ≤ self.old.sizes.log_bytes }
+        requires room { self.old.tail.offset + end_size ≤ self.old.sizes.log_bytes }
         ensures same { Same self.old self.new }
         ensures bytes { self.new.store.now ≡ splice (self.old.by.core * self.old.sizes.log_bytes + self.old.tail.offset) (bytes_of (end_entry self.old.by.count self.old.tail.arcs)) self.old.store.now }
     {

@@ -14,7 +14,7 @@ use accesses::history::History;
 use cores::acting::{act, request_of, tell_core};
 use cores::interface::{Core, Request};
 use records::format::Record;
-use records::settings::{Heading, Sizes, buffers_hold};
+use records::settings::{Heading, Sizes, buffers_hold, can_begin};
 use reducers::interface::Reducer;
 
 // An instruction that was carried out: the request, its count, the number that it brought and how many arcs were logged.
@@ -95,7 +95,7 @@ impl<R: Reducer> Recorder<R> {
         ensures outcome { record { says = begun_said result; leaves = tape R.Reducer.numbers self.new store.new } ≡ begun sizes (length cores.now) (length cells.now) (tape R.Reducer.numbers self.old store.old) }
         ensures refused { unmoved result self.old self.new }
     {
-        if !buffers_hold(sizes, cores.len(), cells.len(), store.len()) {
+        if !can_begin(sizes, cores.len(), cells.len(), store.len()) {
             return Err(Refusal::BadSetting);
         }
         begin_logs(store, sizes);

@@ -1,6 +1,8 @@
 // Which turns are refused, and how the ledger counts the others.
 ghost use Rattle.std.specs.Prelude.{◌≡◌, ◌+◌, ◌*◌, ◌<◌, ◌≤◌, slice_index_or};
 ghost use Rattle.std.specs.Result.{result_err};
+ghost use Rattle.records.specs.Format.{end_size};
+ghost use Rattle.records.specs.Settings.{least_begun};
 ghost use Rattle.recorder.specs.Sound.{no_log};
 ghost use Rattle.recorder.specs.Refusals.{book, touched, barred, code, counted_in, started};
 
@@ -49,7 +51,7 @@ impl Ledger {
     // A ledger of empty logs.
     pub(crate) fn new(sizes: Sizes) -> Ledger
         requires few { sizes.cores ≤ 4 }
-        requires room { 0 < sizes.cores → 12 ≤ sizes.log_bytes }
+        requires room { 0 < sizes.cores → least_begun ≤ sizes.log_bytes }
         ensures { book result ≡ started sizes }
     {
         Ledger {
@@ -75,7 +77,7 @@ impl Ledger {
             return Err(Refusal::NoSuchCell);
         }
         // one arc from each other core must fit, whatever the reducer will answer
-        let free = self.sizes.log_bytes - (log.end + 6);
+        let free = self.sizes.free_behind(log.end);
         if touch_of(request).is_some() && free < 7 * (self.sizes.cores - 1) {
             return Err(Refusal::LogFull);
         }
@@ -87,7 +89,7 @@ impl Ledger {
         requires inside { j < self.old.sizes.cores }
         requires unspent { (slice_index_or self.old.logs j no_log).instructions < 65535 }
         requires behind { 6 + 7 * arcs ≤ end }
-        requires room { end + 6 ≤ self.old.sizes.log_bytes }
+        requires room { end + end_size ≤ self.old.sizes.log_bytes }
         ensures { book self.new ≡ counted_in (book self.old) j arcs end }
     {
         let instructions = self.logs[j].instructions + 1;

@@ -20,7 +20,7 @@ use Rattle.recordings.specs.ByTheRules.{next_event, plainly_said, ByTheRules, Tu
 use Rattle.recordings.specs.ByTheRules as rules
 use Rattle.recordings.specs.Refused.{turn_refusal}
 use Rattle.recordings.specs.Sessions.{Session, Records}
-use Rattle.recordings.specs.Tracks.{run_of, logged, Tracks, logs_of}
+use Rattle.recordings.specs.Tracks.{run_of, logged, Tracks, logs_of, body_of}
 use Rattle.recordings.proofs.Recording.{goes_logging, goes_tracking, count_said}
 use Rattle.recordings.proofs.Refused.{refusals_are_plain}
 use Rattle.recordings.proofs.Sessions.{begins_tracking, logs_step, arcs_to_next}
@@ -33,7 +33,7 @@ pub record Account (meets : Meets) (K : Rules) (z : Sizes) (cells : List ℕ) (s
   pub arcs : List Arc
   pub rules : ByTheRules meets K z (start cells states) js says turns v.tape.numbers arcs
   pub tracks : Tracks meets K z (start cells states) turns arcs v
-  pub logs : (k : ℕ) → r.arcs k ≡ logs_of k arcs
+  pub logs : (k : ℕ) → r.bodies k ≡ body_of k arcs
   pub settles : ready v ≡ true
 
 -- the calls of turns in a row, on top of earlier ones
@@ -134,7 +134,7 @@ module _ (meets : Meets) (K : Rules) (z : Sizes) (cs : List ℕ) (ss : List (Lis
           arcs = a.arcs;
           rules = subst (λ n. ByTheRules meets K z (start cs ss) (j ∷ js) ((n ∷ []) ∷ says) a.turns v.tape.numbers a.arcs) (sym now_refused_is) (rules.refuses a.rules j (λ q. never (now_refused_is ∙ q)));
           tracks = a.tracks;
-          logs = subst (λ b. (k : ℕ) → (cond b r extended_by).arcs k ≡ logs_of k a.arcs) (sym said) a.logs;
+          logs = subst (λ b. (k : ℕ) → (cond b r extended_by).bodies k ≡ body_of k a.arcs) (sym said) a.logs;
           settles = a.settles;
         })
 
@@ -156,7 +156,7 @@ module _ (meets : Meets) (K : Rules) (z : Sizes) (cs : List ℕ) (ss : List (Lis
           arcs = arcs;
           rules = subst (λ x. ByTheRules meets K z (start cs ss) (j ∷ js) (x ∷ says) (j ∷ a.turns) T.last arcs) (sym (said_plainly meets K v r own f records j o T ok)) (rules.accepts a.rules j (sym now_refused_is ∙ ok) (logs_more meets K v r own f records j o T ok));
           tracks = subst (λ x. Tracks meets K x (start cs ss) (j ∷ a.turns) arcs left) a.tracks.sizes (goes_tracking meets K y cs ss a.turns a.arcs v t j p T.trail T.last (T.within ok));
-          logs = λ k. logs_step meets K j k at more (r.arcs k) a.arcs refl (arcs_to_next meets K y cs ss a.turns a.arcs v t j p T.trail) (a.logs k);
+          logs = λ k. logs_step meets K j k at more (r.bodies k) a.arcs refl (arcs_to_next meets K y cs ss a.turns a.arcs v t j p T.trail) (a.logs k);
           settles = subst (λ (x : Answered). ready x.leaves ≡ true) e room;
         })
 

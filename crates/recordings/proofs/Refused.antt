@@ -1,12 +1,12 @@
 -- A turn is refused by the plain memory and the arcs logged so far.
-use Rattle.std.proofs.Common.{◌≡◌, ℕ, ◌+◌, ◌-◌, ◌*◌, ◌<◌, cond, not, eqb, ltb, leb, List, [], length, get_or, Some, None, Option, sym, refl, ap, ◌∙◌, inl, inr}
+use Rattle.std.proofs.Common.{◌≡◌, ℕ, ◌-◌, ◌*◌, ◌<◌, cond, not, eqb, ltb, leb, List, [], map, length, get_or, Some, None, Option, sym, refl, ap, ◌∙◌, inl, inr}
 use Rattle.std.proofs.lemmas.List.{get_or-take}
 use Rattle.std.proofs.lemmas.Bool.{cases_lt, cond-true, le-leb}
 use Rattle.cores.specs.Acting.{within}
 use Rattle.cores.specs.Memory.{Rules, Memory, outcome, plain, start}
 use Rattle.logs.specs.Lawful.{front}
-use Rattle.records.specs.Format.{LogArc, written}
-use Rattle.records.specs.Settings.{heading_of}
+use Rattle.records.specs.Format.{LogArc, arc, written}
+use Rattle.records.specs.Settings.{heading_of, free_behind}
 use Rattle.recorder.specs.Refusals.{Book, log_in, halts, touched, full, barred}
 use Rattle.recorder.specs.Turns.{World, asks, ready, refusal}
 use Rattle.recorder.specs.declared.rules.Touch.{Touch}
@@ -16,9 +16,9 @@ use Rattle.recordings.specs.Refused.{no_room, request_refusal, turn_refusal, Ref
 use Rattle.recordings.specs.Sessions.{Session, Records}
 use Rattle.recordings.specs.Tracks.{logs_of}
 
-full_is : (b : Book) (j : ℕ) (arcs : List LogArc) (t : Option Touch) → (log_in b j).end ≡ length (written (front (heading_of b.sizes j) arcs)) → full b j t ≡ no_room b.sizes j arcs t
+full_is : (b : Book) (j : ℕ) (arcs : List LogArc) (t : Option Touch) → (log_in b j).end ≡ length (written (front (heading_of b.sizes j) (map arc arcs))) → full b j t ≡ no_room b.sizes j arcs t
 full_is b j arcs None q = refl
-full_is b j arcs (Some t) q = ap (λ e. ltb (b.sizes.log_bytes - (e + 6)) (7 * (b.sizes.cores - 1))) q
+full_is b j arcs (Some t) q = ap (λ e. ltb (free_behind b.sizes e) (7 * (b.sizes.cores - 1))) q
 
 module _ (meets : Meets) (K : Rules) (w : World) (r : Recording) (s : Session) (j : ℕ) (f : Faithful w r) (rec : Records meets K w r s) where
   abbrev m : Memory

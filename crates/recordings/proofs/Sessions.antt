@@ -1,10 +1,11 @@
 -- After any calls a recorder has recorded the run of the turns accepted since the last begin.
-use Rattle.std.proofs.Common.{◌≡◌, ℕ, true, cond, not, eqb, List, [], ◌∷◌, ◌++◌, length, get_or, take, set, sym, refl, ap, ◌∙◌, subst, inl, inr, arith}
+use Rattle.std.proofs.Common.{◌≡◌, ℕ, true, cond, not, eqb, List, [], ◌∷◌, ◌++◌, map, length, get_or, take, set, sym, refl, ap, ◌∙◌, subst, inl, inr, arith}
 use Rattle.std.proofs.lemmas.Bool.{cases_Bool, cases_eq, cond-true, cond-false, eq-eqb, ne_eqb}
+use Rattle.std.proofs.lemmas.List.{map-append}
 use Rattle.access_laws.proofs.Recalling.{nothing_is_recalled_at_first}
 use Rattle.access_laws.specs.Recalls.{Recalls}
 use Rattle.cores.specs.Memory.{Rules, brought, stored, outcome, plain, start}
-use Rattle.records.specs.Format.{LogArc}
+use Rattle.records.specs.Format.{LogArc, Entry, arc}
 use Rattle.records.specs.declared.settings.Sizes.{Sizes}
 use Rattle.logs.proofs.Rules.{all_alike}
 use Rattle.recorder.specs.Refusals.{Book, touched}
@@ -21,12 +22,12 @@ use Rattle.traces.proofs.Steps.{refused_turn, accepted_turn}
 use Rattle.traces.specs.Recording as traced
 use Rattle.traces.specs.Trace.{none, begins, turns, refused}
 use Rattle.recordings.specs.Sessions.{Session, opened, with_turn, session_after, Records, TracesAreRecorded, NewHasRecordedNothing}
-use Rattle.recordings.specs.Tracks.{run_of, logged, Tracks, logs_of}
+use Rattle.recordings.specs.Tracks.{run_of, logged, Tracks, logs_of, body_of}
 use Rattle.recordings.proofs.Appending.{To, arcs_target, own_logged, other_logged}
 use Rattle.recordings.proofs.Recording.{goes_tracking}
 use Rattle.recordings.proofs.Tracking as now
 use Rattle.recorder.proofs.Passing.{Passed, passed}
-use Rattle.records.specs.Settings.{settled, no_sizes}
+use Rattle.records.specs.Settings.{can_begin, no_sizes}
 
 -- begin tracks a run of no turns
 pub begins_tracking : (meets : Meets) (K : Rules) (z : Sizes) (w : World) →
@@ -59,17 +60,19 @@ module _ (meets : Meets) (K : Rules) where
       Records meets K (world b.leaves v.cells v.states) (cond (refused b.says) r (traced.opened z v)) (cond (refused b.says) s (opened z v))
   begin_step z v b r s e f =
       let there : Begun → Type 0 = λ x. Records meets K (world x.leaves v.cells v.states) (cond (refused x.says) r (traced.opened z v)) (cond (refused x.says) s (opened z v)) in
-      elim (cases_Bool (settled z (length v.states) (length v.cells) (length v.tape.store))) [
+      elim (cases_Bool (can_begin z (length v.states) (length v.cells) (length v.tape.store))) [
         | inl good ↦ subst there (sym (e ∙ begun_done z (length v.states) (length v.cells) v.tape good)) (begin_tracks meets K z v)
         | inr bad ↦ subst there (sym (e ∙ begun_refused z (length v.states) (length v.cells) v.tape bad)) f
       ]
 
   -- the arcs of a turn go to the log of its core
-  pub logs_step : (j k : ℕ) (y : Instr) (more old : List LogArc) (L : List Arc) → y.core ≡ j → To y.count more → old ≡ logs_of k L →
-      cond (eqb k j) (old ++ more) old ≡ logs_of k (logged y more L)
+  pub logs_step : (j k : ℕ) (y : Instr) (more : List LogArc) (old : List Entry) (L : List Arc) → y.core ≡ j → To y.count more → old ≡ body_of k L →
+      cond (eqb k j) (old ++ map arc more) old ≡ body_of k (logged y more L)
   logs_step j k y more old L q to e = elim (cases_eq k j) [
-    | inl same ↦ cond-true (eqb k j) _ _ (eq-eqb k j same) ∙ ap (λ l. l ++ more) e ∙ subst (λ i. logs_of i L ++ more ≡ logs_of i (logged y more L)) (q ∙ sym same) (sym (own_logged y more L to))
-    | inr other ↦ cond-false (eqb k j) _ _ (ne_eqb k j other) ∙ e ∙ sym (other_logged k y more L (λ p. other (p ∙ q)))
+    | inl same ↦
+        cond-true (eqb k j) _ _ (eq-eqb k j same) ∙ ap (λ l. l ++ map arc more) e ∙ sym (map-append arc (logs_of k L) more)
+        ∙ ap (map arc) (subst (λ i. logs_of i L ++ more ≡ logs_of i (logged y more L)) (q ∙ sym same) (sym (own_logged y more L to)))
+    | inr other ↦ cond-false (eqb k j) _ _ (ne_eqb k j other) ∙ e ∙ ap (map arc) (sym (other_logged k y more L (λ p. other (p ∙ q))))
   ]
 
   turn_records : (j : ℕ) (v : World) (r : traced.Recording) (s : Session) (o : Answered) (T : Turned meets K j v o) → refusal K j v ≡ 0 → Records meets K v r s →
@@ -88,7 +91,7 @@ module _ (meets : Meets) (K : Rules) where
       record {
         arcs = logged y more f.arcs;
         tracks = goes_tracking meets K z s.cells s.states s.turns f.arcs v t j p T.trail T.last (T.within ok);
-        logs = λ k. logs_step j k y more (r.arcs k) f.arcs refl to (f.logs k);
+        logs = λ k. logs_step j k y more (r.bodies k) f.arcs refl to (f.logs k);
       }
 
   turn_step : (j : ℕ) (v : World) (o : Answered) (T : Turned meets K j v o) (r : traced.Recording) (s : Session) → Records meets K v r s →

@@ -1,11 +1,11 @@
 -- Which turns are refused, by the plain memory and the arcs logged so far.
-use Rattle.std.specs.Prelude.{◌≡◌, ℕ, ◌+◌, ◌-◌, ◌*◌, Bool, false, cond, not, List, length, Some, None, Option, ◌==◌, nat_le, nat_lt, slice_index}
+use Rattle.std.specs.Prelude.{◌≡◌, ℕ, ◌-◌, ◌*◌, Bool, false, cond, not, List, map, length, Some, None, Option, ◌==◌, nat_le, nat_lt, slice_index}
 use Rattle.cores.specs.Acting.{within}
 use Rattle.cores.specs.Memory.{Rules, Memory, outcome, plain, start}
 use Rattle.cores.specs.declared.interface.Request.{Request}
 use Rattle.logs.specs.Lawful.{front}
-use Rattle.records.specs.Format.{LogArc, written}
-use Rattle.records.specs.Settings.{heading_of}
+use Rattle.records.specs.Format.{LogArc, arc, written}
+use Rattle.records.specs.Settings.{heading_of, free_behind}
 use Rattle.records.specs.declared.settings.Sizes.{Sizes}
 use Rattle.recorder.specs.Refusals.{halts, touched}
 use Rattle.recorder.specs.Turns.{World, ready, refusal}
@@ -18,7 +18,7 @@ use Rattle.recordings.specs.Tracks.{logs_of}
 -- an access, where behind head, arcs and end record of the core's log there is no room for an arc from each other core
 abbrev pub no_room : Sizes → ℕ → List LogArc → Option Touch → Bool
 no_room z j arcs None = false
-no_room z j arcs (Some t) = nat_lt (z.log_bytes - (length (written (front (heading_of z j) arcs)) + 6)) (7 * (z.cores - 1))
+no_room z j arcs (Some t) = nat_lt (free_behind z (length (written (front (heading_of z j) (map arc arcs))))) (7 * (z.cores - 1))
 
 -- halted 2, count spent 3, no such cell 4, log full 5, in this order; else 0
 abbrev pub request_refusal : Sizes → ℕ → ℕ → List LogArc → Request → ℕ

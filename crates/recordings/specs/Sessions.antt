@@ -10,7 +10,7 @@ use Rattle.recorder.specs.Turns.{World}
 use Rattle.runs.specs.Recording.{Arc}
 use Rattle.traces.specs.Recording as traced
 use Rattle.traces.specs.Trace.{Event, Trace, none, begins, turns, refused}
-use Rattle.recordings.specs.Tracks.{Tracks, logs_of}
+use Rattle.recordings.specs.Tracks.{Tracks, body_of}
 
 -- the cells and states at the last begin, and the turns accepted since, the newest first
 pub record Session : Type 0 where
@@ -30,11 +30,11 @@ session_after none s = s
 session_after (begins {v = v} t z b e) s = cond (refused b.says) (session_after t s) (opened z v)
 session_after (turns t j o f) s = cond (refused o.says) (session_after t s) (with_turn j (session_after t s))
 
--- the recorder tracks the run of the session's turns, and each core's log has the arcs of that run's recording to its instructions
+-- the recorder tracks the run of the session's turns, and the body of each core's log is the arcs of that run's recording to its instructions
 pub record Records (meets : Meets) (K : Rules) (w : World) (r : traced.Recording) (s : Session) : Type 0 where
   pub arcs : List Arc
   pub tracks : Tracks meets K w.tape.book.sizes (start s.cells s.states) s.turns arcs w
-  pub logs : (k : ℕ) → r.arcs k ≡ logs_of k arcs
+  pub logs : (k : ℕ) → r.bodies k ≡ body_of k arcs
 
 abbrev pub TracesAreRecorded : Meets → Type 0
 TracesAreRecorded meets =

@@ -1,7 +1,7 @@
 -- A recorder whose turns were accepted tracks the plain memory, and what it logged is a recording of its run.
 use Rattle.std.specs.Prelude.{◌≡◌, ℕ, ◌<◌, List, [], ◌∷◌, map, length, take, slice_index}
 use Rattle.cores.specs.Memory.{Rules, Memory, plain, Accepted}
-use Rattle.records.specs.Format.{LogArc}
+use Rattle.records.specs.Format.{LogArc, Entry, arc as arc_entry}
 use Rattle.records.specs.declared.settings.Sizes.{Sizes}
 use Rattle.recorder.specs.Refusals.{log_in}
 use Rattle.recorder.specs.Turns.{World}
@@ -38,3 +38,7 @@ to_log a = record { source = a.source.core; count = a.source.count; target = a.t
 
 abbrev pub logs_of : ℕ → List Arc → List LogArc
 logs_of k L = map to_log (log k L)
+
+-- and the body of that log
+abbrev pub body_of : ℕ → List Arc → List Entry
+body_of k L = map arc_entry (logs_of k L)

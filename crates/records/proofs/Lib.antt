@@ -1,2 +1,3 @@
 pub mod Splices
 pub mod Looking
+pub mod Settling

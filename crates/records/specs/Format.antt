@@ -30,6 +30,10 @@ bytes_of (head core cores cells) = 0x48 ∷ 0x43 ∷ core ∷ cores ∷ two_byte
 bytes_of (arc a) = 0x41 ∷ 0x52 ∷ a.source ∷ (two_bytes a.count ++ two_bytes a.target)
 bytes_of (end instructions arcs) = 0x45 ∷ 0x44 ∷ (two_bytes instructions ++ two_bytes arcs)
 
+-- how many bytes an end record takes
+abbrev pub end_size : ℕ
+end_size = 6
+
 -- the bytes of records, one after another
 abbrev pub written : List Entry → List ℕ
 written [] = []

@@ -19,6 +19,9 @@ pub struct Arc {
     pub target: u16,
 }
 
+// How many bytes an end record takes.
+pub const END_SIZE: usize = 6;
+
 // One record of a log.
 #[derive(Clone, Copy, PartialEq, Eq, Debug)]
 pub enum Record {
@@ -34,8 +37,9 @@ impl Record {
         ensures { result ≡ length (bytes_of (entry self)) }
     {
         match self {
-            Record::Head(_) | Record::End { .. } => 6,
+            Record::Head(_) => 6,
             Record::Arc(_) => 7,
+            Record::End { .. } => END_SIZE,
         }
     }
 }

@@ -5,12 +5,14 @@ use Rattle.std.proofs.lemmas.List.{get_or-take}
 use Rattle.std.proofs.lemmas.Bool.{cases_lt, cond-true, cond-false, le-leb, lt-leb}
 use Rattle.cores.specs.Memory.{Rules, rules, Memory, outcome}
 use Rattle.cores.specs.declared.interface.Request.{Request}
+use Rattle.logs.specs.Lawful.{Lawful}
 use Rattle.records.specs.Settings.{heading_of}
 use Rattle.records.specs.declared.reading.SavedPlace.{SavedPlace}
 use Rattle.recordings.specs.Tracks.{logs_of}
 use Rattle.replayer.proofs.Following.{step_waits}
 use Rattle.replayer.specs.Answers.{done_numbers}
-use Rattle.replayer.specs.Following.{place_behind}
+use Rattle.replayer.specs.Following.{arcs_to}
+use Rattle.replayer.specs.Groups.{waits_for}
 use Rattle.replayer.specs.Memories.{memory_of}
 use Rattle.replayer.specs.Steps.{gone, freed, cleared, stepped}
 use Rattle.replayer.specs.declared.replay.Replayer.{Replayer}
@@ -56,13 +58,17 @@ module _ (next : List ℕ → List ℕ → Request) (after : List ℕ → List �
 
   -- an instruction is left
   module _ (mine : j < P) (h : get_or R.done j 0 < get_or R.counts j 0) where
+    abbrev lawful : Lawful (heading_of R.sizes j) (logs_of j L)
+    lawful = subst (Lawful (heading_of R.sizes j)) (m.arcs j) (m.follows.holds j mine).lawful.lawful
+
     abbrev behind : SavedPlace
-    behind = place_behind (get_or R.done j 0 + 1) (logs_of j L)
+    behind = (step_waits next after text R cells states store m.bodies m.follows j m.ready mine h).0
 
     goes_on : said ≡ (gone next after text R cells states j (freed (source_waited (waiting (log j L) M.counts j)) behind)).says
     goes_on =
-        ap (λ x. x.says) (step_waits next after text R cells states store (λ k. logs_of k L) m.follows j m.ready mine h)
-        ∙ ap (λ w. (gone next after text R cells states j (freed w behind)).says) (waits_first (heading_of R.sizes j) R.done j L mine (m.follows.holds j mine).lawful)
+        ap (λ x. x.says) (step_waits next after text R cells states store m.bodies m.follows j m.ready mine h).2
+        ∙ ap (λ a. (gone next after text R cells states j (freed (waits_for R.done (arcs_to (get_or R.done j 0 + 1) a)) behind)).says) (m.arcs j)
+        ∙ ap (λ w. (gone next after text R cells states j (freed w behind)).says) (waits_first (heading_of R.sizes j) R.done j L mine lawful)
 
     less : get_or p.memory.counts j 0 < get_or n j 0
     less = omega (arith, h, m.recorded j mine, done_is mine)
@@ -71,8 +77,8 @@ module _ (next : List ℕ → List ℕ → Request) (after : List ℕ → List �
     answers (some a) q = goes_on ∙ ap (λ w. (gone next after text R cells states j (freed (source_waited w) behind)).says) q
     answers none q =
         let f : free L M.counts j ≡ true =
-        sym (waits_free (heading_of R.sizes j) R.done j L mine (m.follows.holds j mine).lawful)
-        ∙ ap waits_none (waits_first (heading_of R.sizes j) R.done j L mine (m.follows.holds j mine).lawful ∙ ap source_waited q) in
+        sym (waits_free (heading_of R.sizes j) R.done j L mine lawful)
+        ∙ ap waits_none (waits_first (heading_of R.sizes j) R.done j L mine lawful ∙ ap source_waited q) in
         (steps_match next after text n L store R cells states p j m).says (unrefused less (subst (λ x. free L x.counts j ≡ true) m.memory f))
 
     left : said ≡ step_says K P n L p.memory j

@@ -5,6 +5,7 @@ use Rattle.std.proofs.lemmas.Bool.{cond-true, and_parts, leb-true}
 use Rattle.cores.specs.Memory.{Rules, plain, start}
 use Rattle.lawful_logs.proofs.Orderly.{orderly_is_accepted}
 use Rattle.lawful_logs.specs.Orderly.{Orderly}
+use Rattle.logs.proofs.Arcs.{arcs_alone}
 use Rattle.logs.proofs.Sessions.{read_exactly, few_cores}
 use Rattle.logs.specs.Lawful.{Holds, Accepted}
 use Rattle.logs.specs.Session as reading
@@ -14,7 +15,7 @@ use Rattle.records.specs.declared.settings.Sizes.{Sizes}
 use Rattle.recorder.specs.Turns.{World}
 use Rattle.recorder.specs.declared.ledger.Log.{Log}
 use Rattle.recordings.specs.Sessions.{Session, Records}
-use Rattle.recordings.specs.Tracks.{logs_of}
+use Rattle.recordings.specs.Tracks.{logs_of, body_of}
 use Rattle.lawful_logs.proofs.Orderly.{counts_at}
 use Rattle.reducers.specs.Numbers.{Meets}
 use Rattle.replayer.proofs.Following.{opening_follows}
@@ -41,8 +42,8 @@ same_log z j a b h q = one a ∙ ap (λ l. drop (j * L) (take (j * L + L) l)) q 
 
 accepted_anew : (z : Sizes) (counts a b : List ℕ) → take (z.cores * z.log_bytes) b ≡ take (z.cores * z.log_bytes) a → Accepted a z counts → Accepted b z counts
 accepted_anew z counts a b q w = record {
-  arcs = w.arcs;
-  holds = λ j h. subst (λ l. Holds (heading_of z j) l (w.arcs j) (get_or counts j 0)) (same_log z j a b h (sym q)) (w.holds j h);
+  bodies = w.bodies;
+  holds = λ j h. subst (λ l. Holds (heading_of z j) l (w.bodies j) (get_or counts j 0)) (same_log z j a b h (sym q)) (w.holds j h);
   sources = w.sources;
   four = w.four;
   others = w.others;
@@ -63,7 +64,7 @@ module _ (meets : Meets) (K : Rules) (w : World) (r : Recording) (s : Session) (
   abbrev counts : List ℕ
   counts = map (λ (l : Log). l.instructions) w.tape.book.logs
 
-  accepted : (logs : Accepted store z counts) × (logs.arcs ≡ (λ k. logs_of k rec.arcs))
+  accepted : (logs : Accepted store z counts) × (logs.bodies ≡ (λ k. body_of k rec.arcs))
   unfolding accepted_anew
   accepted =
       let a = orderly_is_accepted w r f o in
@@ -79,9 +80,9 @@ module _ (meets : Meets) (K : Rules) (w : World) (r : Recording) (s : Session) (
   opens : reopened R z (length states) (length cells) store ≡ record { says = 0 ∷ []; replayer = started z counts }
   opens = cond-true (settled z (length states) (length cells) (length store)) _ _ g.ready ∙ ap (found R z) reads
 
-  follows : Follows store (λ k. logs_of k rec.arcs) (started z counts)
+  follows : Follows store (λ k. body_of k rec.arcs) (started z counts)
   follows = subst (λ a. Follows store a (started z counts)) accepted.1
-      (subst (λ x. (logs : Accepted store z x.replayer.counts) → Follows store logs.arcs x.replayer) opens
+      (subst (λ x. (logs : Accepted store z x.replayer.counts) → Follows store logs.bodies x.replayer) opens
       (opening_follows R z (length states) (length cells) store (ap (λ x. x.says) opens)) accepted.0)
 
   pub stands : Matches (plain K (start s.cells s.states) s.turns).counts rec.arcs store (started z counts) cells states (replayed K (start s.cells s.states) s.turns rec.arcs [])
@@ -89,7 +90,9 @@ module _ (meets : Meets) (K : Rules) (w : World) (r : Recording) (s : Session) (
       let enough = leb-true z.cores (length states) (and_parts (leb z.cores (length states)) _ (and_parts (fits (length store) z) _ g.ready).1).0 in
       let size : z.cores ≡ length s.states = sym (length-take-le z.cores states enough) ∙ ap length g.same_states in
       record {
+        bodies = λ k. body_of k rec.arcs;
         follows = follows;
+        arcs = λ k. arcs_alone (logs_of k rec.arcs);
         ready = g.ready;
         memory = λ i. record { cells = g.same_cells i; states = g.same_states i; counts = (no_counts_are z.cores (few_cores (length store) z fitting) ∙ ap (λ k. replicate k 0) size) i };
         recorded = λ k h. counts_at w.tape.book.logs k ∙ rec.tracks.counts k h;

@@ -25,8 +25,8 @@ use Rattle.cores.specs.Memory.{outcomes}
 use Rattle.lawful_logs.specs.Orderly.{Orderly}
 use Rattle.logs.proofs.Judging.{written_append}
 use Rattle.std.specs.List.{AllByRecursion}
-use Rattle.logs.specs.Lawful.{Lawful, front, whole}
-use Rattle.records.specs.Format.{LogArc, end, written}
+use Rattle.logs.specs.Lawful.{Body, arcs_in, front, whole}
+use Rattle.records.specs.Format.{Entry, end, end_size, written}
 use Rattle.records.specs.Settings.{log_of, heading_of}
 use Rattle.records.specs.declared.settings.Heading.{Heading}
 use Rattle.recorded_logs.specs.Held.{HeldLog}
@@ -34,23 +34,24 @@ use Rattle.recorder.specs.Refusals.{log_in}
 use Rattle.recorder.specs.Turns.{World}
 use Rattle.recorder.specs.declared.ledger.Log.{Log}
 use Rattle.recordings.proofs.ByTheRules.{turns_go_by_the_rules}
-use Rattle.recordings.specs.Tracks.{logs_of}
+use Rattle.recordings.specs.Tracks.{body_of}
 use Rattle.replays.specs.Promise.{ReplaysAsRecorded, LogsHold}
 use Rattle.replays.specs.Replies.{reply, replies, dones}
 use Rattle.replays.proofs.Agreeing.{steps_agree, calls_agree}
 use Rattle.replays.proofs.Replying.{replied, never_stuck}
 
--- the bytes of a log: its front, and the six of its end
-whole_size : (g : Heading) (arcs : List LogArc) (n : ℕ) → length (written (whole g arcs n)) ≡ length (written (front g arcs)) + 6
-whole_size g arcs n = ap length (written_append (front g arcs) (end n (length arcs) ∷ [])) ∙ length-append (written (front g arcs)) (written (end n (length arcs) ∷ []))
+-- the bytes of a log: its front, and those of its end
+whole_size : (g : Heading) (body : List Entry) (n : ℕ) → length (written (whole g body n)) ≡ length (written (front g body)) + end_size
+whole_size g body n =
+    ap length (written_append (front g body) (end n (length (arcs_in body)) ∷ [])) ∙ length-append (written (front g body)) (written (end n (length (arcs_in body)) ∷ []))
 
--- a log as it is held, said by its arcs and the plain memory's counts
-log_holds : (z : Sizes) (k : ℕ) (l : Log) (bytes old : List ℕ) (arcs arcs' : List LogArc) (n : ℕ) → HeldLog z k l bytes old arcs → arcs ≡ arcs' → l.instructions ≡ n →
-    let whole-log = written (whole (heading_of z k) arcs' n) in
+-- a log as it is held, said by its body and the plain memory's counts
+log_holds : (z : Sizes) (k : ℕ) (l : Log) (bytes old : List ℕ) (body body' : List Entry) (n : ℕ) → HeldLog z k l bytes old body → body ≡ body' → l.instructions ≡ n →
+    let whole-log = written (whole (heading_of z k) body' n) in
     bytes ≡ whole-log ++ drop (length whole-log) old
-log_holds z k l bytes old arcs arcs' n h q e =
-    let w = written (whole (heading_of z k) arcs l.instructions) in
-    let size : l.end + 6 ≡ length w = omega (arith, h.place, whole_size (heading_of z k) arcs l.instructions) in
+log_holds z k l bytes old body body' n h q e =
+    let w = written (whole (heading_of z k) body l.instructions) in
+    let size : l.end + end_size ≡ length w = omega (arith, h.place, whole_size (heading_of z k) body l.instructions) in
     h.says ∙ ap (λ i. w ++ drop i old) size
     ∙ (λ i. let x = written (whole (heading_of z k) (q i) (e i)) in x ++ drop (length x) old)
 
@@ -92,19 +93,19 @@ module _ (meets : Meets) (bounded : Bounded meets) (next : List ℕ → List ℕ
       let counted = rec.tracks.counts k h in
       let bytes = held_bytes k h in
       let lawful = o.logs k h in
-      let arcs = logs_of k rec.arcs in (
+      let body = body_of k rec.arcs in (
         record {
-          lawful = subst (Lawful (heading_of z k)) (rec.logs k) lawful.lawful;
-          reached = subst (λ n. AllByRecursion (λ a. a.target ≤ n) arcs) counted (subst (AllByRecursion (λ a. a.target ≤ (log_in v.tape.book k).instructions)) (rec.logs k) lawful.reached);
-          rest = drop (length (written (whole (heading_of z k) arcs (get_or (plain K m s.turns).counts k 0)))) (log_of r.old z k);
+          lawful = subst (Body (heading_of z k)) (rec.logs k) lawful.lawful;
+          reached = subst (λ n. AllByRecursion (λ a. a.target ≤ n) (arcs_in body)) counted (subst (λ x. AllByRecursion (λ a. a.target ≤ (log_in v.tape.book k).instructions) (arcs_in x)) (rec.logs k) lawful.reached);
+          rest = drop (length (written (whole (heading_of z k) body (get_or (plain K m s.turns).counts k 0)))) (log_of r.old z k);
           bytes = bytes;
         },
         bytes,
       )
     where
-      held_bytes : (k : ℕ) → k < z.cores → let whole-log = written (whole (heading_of z k) (logs_of k rec.arcs) (get_or (plain K m s.turns).counts k 0)) in
+      held_bytes : (k : ℕ) → k < z.cores → let whole-log = written (whole (heading_of z k) (body_of k rec.arcs) (get_or (plain K m s.turns).counts k 0)) in
           log_of v.tape.store z k ≡ whole-log ++ drop (length whole-log) (log_of r.old z k)
-      held_bytes k h = log_holds z k (log_in v.tape.book k) (log_of v.tape.store z k) (log_of r.old z k) (r.arcs k) (logs_of k rec.arcs) (get_or (plain K m s.turns).counts k 0) (f.logs k h) (rec.logs k) (rec.tracks.counts k h)
+      held_bytes k h = log_holds z k (log_in v.tape.book k) (log_of v.tape.store z k) (log_of r.old z k) (r.bodies k) (body_of k rec.arcs) (get_or (plain K m s.turns).counts k 0) (f.logs k h) (rec.logs k) (rec.tracks.counts k h)
 
 pub no_dropped_ordering_was_needed : (meets : Meets) → Bounded meets → (next : List ℕ → List ℕ → Request) (after : List ℕ → List ℕ → ℕ → List ℕ) (text : List ℕ) → NoDroppedOrderingWasNeeded meets next after text
 no_dropped_ordering_was_needed meets bounded next after text w v es t new =

@@ -1,11 +1,13 @@
 -- A step over the bytes goes exactly if the replay over the arcs of the recording goes, and both come equally far.
-use Rattle.std.proofs.Common.{◌≡◌, ℕ, ◌+◌, ◌<◌, ◌≤◌, Bool, true, false, cond, ◌&&◌, ltb, leb, List, [], ◌∷◌, length, get_or, Some, None, Option, sym, refl, ap, ◌∙◌, inl, inr, arith}
+use Rattle.std.proofs.Common.{◌≡◌, ℕ, ◌+◌, ◌<◌, ◌≤◌, Bool, true, false, cond, ◌&&◌, ltb, leb, List, [], ◌∷◌, length, get_or, Some, None, Option, sym, refl, ap, ◌∙◌, subst, inl, inr, arith}
 use Rattle.std.proofs.lemmas.List.{get_or-take, length-take-le, length-set}
 use Rattle.std.proofs.lemmas.Bool.{cases_lt, cond-true, cond-false, and_parts, leb-true, le-leb, lt-leb, lt-ltb, le-ltb, false≢true}
 use Rattle.cores.proofs.Storing.{length_stored}
 use Rattle.cores.specs.Acting.{within}
 use Rattle.cores.specs.Memory.{Rules, rules, Memory, able, accepts, brought, outcome, turned}
 use Rattle.cores.specs.declared.interface.Request.{Request}
+use Rattle.logs.specs.Lawful.{Lawful, arcs_in}
+use Rattle.records.specs.Format.{Entry}
 use Rattle.records.specs.Settings.{fits, settled, heading_of}
 use Rattle.records.specs.declared.reading.SavedPlace.{SavedPlace}
 use Rattle.recordings.specs.Tracks.{logs_of}
@@ -13,7 +15,7 @@ use Rattle.replayer.proofs.Following.{step_waits, steps_follow}
 use Rattle.replayer.proofs.Memories.{steps_alike}
 use Rattle.replayer.proofs.Ways.{any_step}
 use Rattle.replayer.specs.Answers.{done_numbers}
-use Rattle.replayer.specs.Following.{Follows, arcs_to, place_behind}
+use Rattle.replayer.specs.Following.{Follows, arcs_to}
 use Rattle.replayer.specs.Groups.{waits_for}
 use Rattle.replayer.specs.Memories.{memory_of, Alike, stays, turns}
 use Rattle.replayer.specs.Runs.{counted}
@@ -31,7 +33,7 @@ never true false = refl
 never false b = refl
 
 module _ (next : List ℕ → List ℕ → Request) (after : List ℕ → List ℕ → ℕ → List ℕ) (text n : List ℕ) (L : List Arc) (store : List ℕ) (R : Replayer) (cells : List ℕ) (states : List (List ℕ)) (j : ℕ)
-    (F : Follows store (λ k. logs_of k L) R) (ready : settled R.sizes (length states) (length cells) (length store) ≡ true)
+    (bodies : ℕ → List Entry) (F : Follows store bodies R) (arcs : (k : ℕ) → arcs_in (bodies k) ≡ logs_of k L) (ready : settled R.sizes (length states) (length cells) (length store) ≡ true)
     (recorded : (k : ℕ) → k < R.sizes.cores → get_or R.counts k 0 ≡ get_or n k 0) where
   abbrev K : Rules
   K = rules next after text
@@ -86,11 +88,12 @@ module _ (next : List ℕ → List ℕ → Request) (after : List ℕ → List �
   -- an instruction is left
   left : j < P → get_or R.done j 0 < get_or R.counts j 0 → counted o.says ≡ cond (goes K L n M j) 1 0
   left mine h =
-      let W = waits_for R.done (arcs_to (get_or R.done j 0 + 1) (logs_of j L)) in
-      let behind = place_behind (get_or R.done j 0 + 1) (logs_of j L) in
-      ap (λ x. counted x.says) (step_waits next after text R cells states store (λ k. logs_of k L) F j ready mine h)
-      ∙ gone_counts W behind
-      ∙ (λ i. cond (waits_free (heading_of R.sizes j) R.done j L mine (F.holds j mine).lawful i && sym (accepts_is mine) i) 1 0)
+      let w = step_waits next after text R cells states store bodies F j ready mine h in
+      let lawful = subst (Lawful (heading_of R.sizes j)) (arcs j) (F.holds j mine).lawful.lawful in
+      ap (λ x. counted x.says) w.2
+      ∙ gone_counts (waits_for R.done (arcs_to (get_or R.done j 0 + 1) (arcs_in (bodies j)))) w.0
+      ∙ ap (λ a. cond (waits_none (waits_for R.done (arcs_to (get_or R.done j 0 + 1) a)) && able request R.sizes.cells) 1 0) (arcs j)
+      ∙ (λ i. cond (waits_free (heading_of R.sizes j) R.done j L mine lawful i && sym (accepts_is mine) i) 1 0)
       ∙ ap (λ b. cond (b && (free L M.counts j && accepts K M j)) 1 0) (sym (lt-ltb (get_or M.counts j 0) (get_or n j 0) (omega (arith, h, recorded j mine, get_or-take P R.done j 0 mine))))
 
   goes_alike : counted o.says ≡ cond (goes K L n M j) 1 0
@@ -132,12 +135,12 @@ module _ (next : List ℕ → List ℕ → Request) (after : List ℕ → List �
   left_by = stepped next after text R cells states store j
 
   carries : counted left_by.says ≡ cond (goes kind L n p.memory j) 1 0
-  carries = goes_alike next after text n L store R cells states j m.follows m.ready m.recorded ∙ ap (λ x. cond (goes kind L n x j) 1 0) m.memory
+  carries = goes_alike next after text n L store R cells states j m.bodies m.follows m.arcs m.ready m.recorded ∙ ap (λ x. cond (goes kind L n x j) 1 0) m.memory
 
   matching : (q : Progress) → memory_of left_by.replayer left_by.cells left_by.states ≡ q.memory → Matches n L store left_by.replayer left_by.cells left_by.states q
   matching q e =
       let k = kept next after text n store R cells states j m.ready m.recorded in
-      record { follows = steps_follow next after text R cells states store (λ k. logs_of k L) m.follows j; ready = k.ready; memory = e; recorded = k.recorded }
+      record { bodies = m.bodies; follows = steps_follow next after text R cells states store m.bodies m.follows j; arcs = m.arcs; ready = k.ready; memory = e; recorded = k.recorded }
 
   matched : Alike kind (memory_of R cells states) j left_by → StepGoes kind n L store p j left_by
   matched (stays q e) =

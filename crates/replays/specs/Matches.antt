@@ -2,6 +2,8 @@
 use Rattle.std.specs.Prelude.{◌≡◌, ℕ, ◌<◌, true, cond, List, [], ◌∷◌, length, nat_le, slice_index}
 use Rattle.std.proofs.Math.Option.{Option, none, some}
 use Rattle.cores.specs.Memory.{Rules, Memory, outcome}
+use Rattle.logs.specs.Lawful.{arcs_in}
+use Rattle.records.specs.Format.{Entry}
 use Rattle.records.specs.Settings.{settled}
 use Rattle.recordings.specs.Tracks.{logs_of}
 use Rattle.replayer.specs.Answers.{done_numbers}
@@ -13,9 +15,11 @@ use Rattle.replayer.specs.declared.replay.Replayer.{Replayer}
 use Rattle.runs.specs.Recording.{Arc, log}
 use Rattle.runs.specs.Replay.{Progress, waiting, goes, step}
 
--- the replayer has opened the logs of the arcs L, of a recording with n instructions of each core, and has come as far as the replay p over L
+-- the replayer has opened logs whose bodies have the arcs L, of a recording with n instructions of each core, and has come as far as the replay p over L
 pub record Matches (n : List ℕ) (L : List Arc) (store : List ℕ) (R : Replayer) (cells : List ℕ) (states : List (List ℕ)) (p : Progress) : Type 0 where
-  pub follows : Follows store (λ k. logs_of k L) R
+  pub bodies : ℕ → List Entry
+  pub follows : Follows store bodies R
+  pub arcs : (k : ℕ) → arcs_in (bodies k) ≡ logs_of k L
   pub ready : settled R.sizes (length states) (length cells) (length store) ≡ true
   pub memory : memory_of R cells states ≡ p.memory
   pub recorded : (k : ℕ) → k < R.sizes.cores → slice_index R.counts k ≡ slice_index n k

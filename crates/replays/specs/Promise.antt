@@ -10,7 +10,7 @@ use Rattle.records.specs.declared.settings.Sizes.{Sizes}
 use Rattle.recorder.specs.Turns.{World, Answered, Turned, fresh_tape, ready}
 use Rattle.recordings.specs.ByTheRules.{TurnGoes}
 use Rattle.recordings.specs.Sessions as recorded
-use Rattle.recordings.specs.Tracks.{run_of, logs_of}
+use Rattle.recordings.specs.Tracks.{run_of, body_of}
 use Rattle.reducers.specs.Numbers.{Meets}
 use Rattle.replayer.specs.Memories.{memory_of, walked}
 use Rattle.replayer.specs.Runs.{Session, session, ran}
@@ -85,8 +85,8 @@ pub record ReplaysAsRecorded (next : List ℕ → List ℕ → Request) (after :
 abbrev pub LogsHold : Sizes → List ℕ → List ℕ → List ℕ → List Arc → Type 0
 LogsHold z old store counts L =
     (k : ℕ) → k < z.cores →
-    let bytes = written (whole (heading_of z k) (logs_of k L) (slice_index counts k)) in
-    LogHolds store z counts (λ i. logs_of i L) k × (log_of store z k ≡ bytes ++ drop (length bytes) (log_of old z k))
+    let bytes = written (whole (heading_of z k) (body_of k L) (slice_index counts k)) in
+    LogHolds store z counts (λ i. body_of i L) k × (log_of store z k ≡ bytes ++ drop (length bytes) (log_of old z k))
 
 -- what was recorded since the last begin, and how every replay of it goes
 pub record RecordedAndReplayed (meets : Meets) (next : List ℕ → List ℕ → Request) (after : List ℕ → List ℕ → ℕ → List ℕ) (text : List ℕ) (v : World) (old : List ℕ) (s : recorded.Session) : Type 0 where

@@ -9,7 +9,8 @@ use Rattle.cores.specs.declared.interface.Request.{Request}
 use Rattle.lawful_logs.proofs.Orderly.{traces_are_orderly, new_is_orderly}
 use Rattle.lawful_logs.specs.Orderly.{Orderly}
 use Rattle.logs.specs.Session.{no_counts}
-use Rattle.records.specs.Settings.{fits, settled, no_sizes}
+use Rattle.records.proofs.Settling.{begins_settled}
+use Rattle.records.specs.Settings.{fits, settled, can_begin, no_sizes}
 use Rattle.records.specs.declared.settings.Sizes.{Sizes}
 use Rattle.recorded_logs.specs.Held.{surplus}
 use Rattle.recorder.specs.Turns.{Tape, World, world, fresh_tape, headed_from, new_arcs, asks}
@@ -68,7 +69,7 @@ all_of n xs a e h q =
 
 module _ (meets : Meets) (bounded : Bounded meets) (next : List ℕ → List ℕ → Request) (after : List ℕ → List ℕ → ℕ → List ℕ) (text : List ℕ) (z : Sizes)
     (w v : World) (new : NewRecorder w) (turns steps : List ℕ) (says : List (List ℕ))
-    (ok : settled z (length w.states) (length w.cells) (length w.tape.store) ≡ true)
+    (ok : can_begin z (length w.states) (length w.cells) (length w.tape.store) ≡ true)
     (room : length (headed_from z z.cores 0 w.tape.store) ≡ length w.tape.store)
     (row : InARow meets (rules next after text) (world (fresh_tape z (headed_from z z.cores 0 w.tape.store)) w.cells w.states) (reverse turns) (reverse says) v)
     (octets : AllByRecursion (λ b. b < 256) v.tape.store)
@@ -78,6 +79,9 @@ module _ (meets : Meets) (bounded : Bounded meets) (next : List ℕ → List ℕ
 
   abbrev begun_world : World
   begun_world = world (fresh_tape z (headed_from z z.cores 0 w.tape.store)) w.cells w.states
+
+  settles : settled z (length w.states) (length w.cells) (length w.tape.store) ≡ true
+  settles = begins_settled z (length w.states) (length w.cells) (length w.tape.store) ok
 
   abbrev cells₁ : List ℕ
   cells₁ = take z.cells w.cells
@@ -113,7 +117,7 @@ module _ (meets : Meets) (bounded : Bounded meets) (next : List ℕ → List ℕ
   orderly = traces_are_orderly meets K w v calls first all_calls at_first (new_is_orderly w (ap (λ (t : Tape). t.book) new) (ap (λ (t : Tape). t.history) new))
 
   account : Account meets K z cells₁ states₁ (reverse turns) (reverse says) v recording
-  account = rows_have_accounts meets K z w v first (began z (0 ∷ []) ∷ []) (reverse turns) (reverse says) at_first (ap (λ n. settled z (length w.states) (length w.cells) n) room ∙ ok) begin_event refl row
+  account = rows_have_accounts meets K z w v first (began z (0 ∷ []) ∷ []) (reverse turns) (reverse says) at_first (ap (λ n. settled z (length w.states) (length w.cells) n) room ∙ settles) begin_event refl row
 
   abbrev u : List ℕ
   u = account.turns
@@ -136,7 +140,7 @@ module _ (meets : Meets) (bounded : Bounded meets) (next : List ℕ → List ℕ
   stands : (fits (length store) z ≡ true) × ((leb z.cores (length w.states) && leb z.cells (length w.cells)) ≡ true)
   stands = (
     (and_parts (fits (length store) z) _ (ap (λ y. settled y (length v.states) (length v.cells) (length store)) (sym sizes) ∙ account.settles)).0,
-    (and_parts (fits (length w.tape.store) z) _ ok).1,
+    (and_parts (fits (length w.tape.store) z) _ settles).1,
   )
 
   enough : (z.cores ≤ length w.states) × (z.cells ≤ length w.cells)

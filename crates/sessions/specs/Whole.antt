@@ -2,7 +2,7 @@
 use Rattle.std.specs.Prelude.{◌≡◌, ℕ, ◌-◌, ◌*◌, Bool, true, false, List, [], ◌∷◌, ◌++◌, map, reverse, length, take, drop, Ok, Err, vec_items, Result}
 use Rattle.cores.specs.Memory.{Rules, Memory, start, plain, outcomes}
 use Rattle.logs.specs.Session.{done_as}
-use Rattle.records.specs.Settings.{settled}
+use Rattle.records.specs.Settings.{can_begin}
 use Rattle.records.specs.declared.settings.Sizes.{Sizes}
 use Rattle.recorder.specs.Refusals.{number_of}
 use Rattle.recorder.specs.Turns.{said}
@@ -31,7 +31,7 @@ abbrev pub buffers : List ℕ → List (List ℕ) → List ℕ → Buffers
 buffers cells states store = record { cells = cells; states = states; store = store }
 
 abbrev pub holds : Sizes → Buffers → Bool
-holds z b = settled z (length b.states) (length b.cells) (length b.store)
+holds z b = can_begin z (length b.states) (length b.cells) (length b.store)
 
 -- the plain memory at the begin: the session's cells and states, and no instruction done
 abbrev pub first_memory : Sizes → Buffers → Memory

@@ -15,7 +15,7 @@ use cores::interface::Core;
 use recorder::recording::{Recorded, Recorder};
 use recorder::rules::Refusal;
 use records::faults::Refusal as LogRefusal;
-use records::settings::{Sizes, buffers_hold};
+use records::settings::{Sizes, can_begin};
 use reducers::interface::Reducer;
 use replayer::answers::{Done, Ended, StepRefusal};
 use replayer::replay::Replayer;
@@ -151,7 +151,7 @@ pub fn record_and_replay<K: Core, R: Reducer + Drop>(
     ensures outcome { ComesTo K.Core.state R.Reducer.meets (rules K.Core.next K.Core.after text.now) sizes turns.now steps.now (buffers cells.old (map K.Core.state cores.old) store.old) (buffers cells.new (map K.Core.state cores.new) store.new) result }
     ensures others { CoresKept sizes cores.old cores.new result }
 {
-    if !buffers_hold(sizes, cores.len(), cells.len(), store.len()) {
+    if !can_begin(sizes, cores.len(), cells.len(), store.len()) {
         return Err(Refusal::BadSetting.into());
     }
     // all memory is taken first, so that want of it leaves everything as it was

@@ -15,7 +15,8 @@ use Rattle.traces.specs.Recording.{Recording, opened, extended, recording_after,
 use Rattle.traces.specs.Trace.{none, begins, turns, refused}
 use Rattle.recorder.proofs.Passing.{settled_parts, Passed, passed}
 use Rattle.traces.proofs.Steps.{refused_turn, accepted_turn, turn_is_plain}
-use Rattle.records.specs.Settings.{settled}
+use Rattle.records.proofs.Settling.{begins_settled}
+use Rattle.records.specs.Settings.{can_begin}
 
 map_replicate : (f : Log → ℕ) (n : ℕ) (l : Log) → map f (replicate n l) ≡ replicate n (f l)
 map_replicate f zero l = refl
@@ -26,28 +27,28 @@ abbrev pub fresh : Sizes → Tape → Tape
 fresh z t = fresh_tape z (headed_from z z.cores 0 t.store)
 
 module _ (z : Sizes) (cores cells : ℕ) (t : Tape) where
-  pub begun_done : settled z cores cells (length t.store) ≡ true → begun z cores cells t ≡ record { says = 0 ∷ []; leaves = fresh z t }
+  pub begun_done : can_begin z cores cells (length t.store) ≡ true → begun z cores cells t ≡ record { says = 0 ∷ []; leaves = fresh z t }
   unfolding begun
   begun_done e = cond-true _ _ _ e
 
-  pub begun_refused : settled z cores cells (length t.store) ≡ false → begun z cores cells t ≡ record { says = 8 ∷ []; leaves = t }
+  pub begun_refused : can_begin z cores cells (length t.store) ≡ false → begun z cores cells t ≡ record { says = 8 ∷ []; leaves = t }
   unfolding begun
   begun_refused e = cond-false _ _ _ e
 
 -- a refusal of begin is 8, where the sizes do not fit, and changes nothing
 pub begun_err : (z : Sizes) (cores cells : ℕ) (t u : Tape) (r : Refusal) → (number_of r ≡ 0 → ⊥) → ◌≡◌ {A = Begun} (record { says = number_of r ∷ []; leaves = u }) (begun z cores cells t) →
-    (settled z cores cells (length t.store) ≡ false) × (number_of r ≡ 8) × (u ≡ t)
+    (can_begin z cores cells (length t.store) ≡ false) × (number_of r ≡ 8) × (u ≡ t)
 begun_err z cores cells t u r some e =
-    elim (cases_Bool (settled z cores cells (length t.store))) [
+    elim (cases_Bool (can_begin z cores cells (length t.store))) [
       | inl good ↦ absurd (some (ap (λ (x : Begun). get_or x.says 0 0) (e ∙ begun_done z cores cells t good)))
       | inr bad ↦
           (bad, ap (λ (x : Begun). get_or x.says 0 0) (e ∙ begun_refused z cores cells t bad), ap (λ (x : Begun). x.leaves) (e ∙ begun_refused z cores cells t bad))
     ]
 
-begin_faithful : (z : Sizes) (w : World) → settled z (length w.states) (length w.cells) (length w.tape.store) ≡ true →
+begin_faithful : (z : Sizes) (w : World) → can_begin z (length w.states) (length w.cells) (length w.tape.store) ≡ true →
     Faithful (world (fresh z w.tape) w.cells w.states) (opened z w)
 begin_faithful z w e =
-    let s = settled_parts z (length w.states) (length w.cells) (length w.tape.store) e in
+    let s = settled_parts z (length w.states) (length w.cells) (length w.tape.store) (begins_settled z (length w.states) (length w.cells) (length w.tape.store) e) in
     let h = begin_holds z w.tape.store (replicate 256 untouched) zeros s.0 in
     let first : Log = record { instructions = 0; arcs = 0; end = 6 } in
     let count : Log → ℕ = λ (l : Log). l.instructions in
@@ -68,7 +69,7 @@ module _ (meets : Meets) (K : Rules) where
       Faithful (world b.leaves v.cells v.states) (cond (refused b.says) r (opened z v))
   begin_step z v b r e f =
       let there : Begun → Type 0 = λ x. Faithful (world x.leaves v.cells v.states) (cond (refused x.says) r (opened z v)) in
-      elim (cases_Bool (settled z (length v.states) (length v.cells) (length v.tape.store))) [
+      elim (cases_Bool (can_begin z (length v.states) (length v.cells) (length v.tape.store))) [
         | inl good ↦ subst there (sym (e ∙ begun_done z (length v.states) (length v.cells) v.tape good)) (begin_faithful z v good)
         | inr bad ↦ subst there (sym (e ∙ begun_refused z (length v.states) (length v.cells) v.tape bad)) f
       ]
@@ -82,8 +83,8 @@ module _ (meets : Meets) (K : Rules) where
       record {
         four = length-set v.tape.book.logs j _ ∙ f.four;
         plain = turn_is_plain K j v trail m f.four p ∙ ap (λ (x : Memory). stepped K x j) f.plain;
-        logs = turn_holds v.tape r.old r.arcs j request trail m p.fitting p.here f.four p.free f.logs;
-        behind = surplus_stays v.tape r.old (r.arcs j) j request trail m p.fitting p.here p.free (f.logs j p.here) ∙ f.behind;
+        logs = turn_holds v.tape r.old r.bodies j request trail m p.fitting p.here f.four p.free f.logs;
+        behind = surplus_stays v.tape r.old (r.bodies j) j request trail m p.fitting p.here p.free (f.logs j p.here) ∙ f.behind;
       }
 
   turn_step : (j : ℕ) (v : World) (o : Answered) (t : Turned meets K j v o) (r : Recording) → Faithful v r →

@@ -5,17 +5,17 @@ use Rattle.recorded_logs.specs.Held.{AllHeld, surplus}
 use Rattle.recorder.specs.Refusals.{started}
 use Rattle.recorder.specs.Turns.{World, asks, new_arcs}
 use Rattle.recorder.specs.declared.ledger.Log.{Log}
-use Rattle.records.specs.Format.{LogArc}
+use Rattle.records.specs.Format.{LogArc, Entry, arc}
 use Rattle.records.specs.Settings.{no_sizes}
 use Rattle.records.specs.declared.settings.Sizes.{Sizes}
 use Rattle.reducers.specs.Numbers.{Meets}
 use Rattle.traces.specs.Trace.{Event, Trace, none, begins, turns, refused}
 
--- a recording since its begin: the plain memory, the store as it was at the begin, and each core's arcs in their order
+-- a recording since its begin: the plain memory, the store as it was at the begin, and the body of each core's log
 pub record Recording : Type 0 where
   pub memory : Memory
   pub old : List ℕ
-  pub arcs : ℕ → List LogArc
+  pub bodies : ℕ → List Entry
 
 -- the session's cells, states and counts
 abbrev pub memory_of : World → Memory
@@ -27,11 +27,11 @@ memory_of w = record {
 
 -- a recording that begins
 abbrev pub opened : Sizes → World → Recording
-opened z w = record { memory = start (take z.cells w.cells) (take z.cores w.states); old = w.tape.store; arcs = λ _. [] }
+opened z w = record { memory = start (take z.cells w.cells) (take z.cores w.states); old = w.tape.store; bodies = λ _. [] }
 
 -- one more instruction of core j, with its arcs
 abbrev pub extended : Rules → Recording → ℕ → List LogArc → Recording
-extended K r j new = record { memory = turned K r.memory j; old = r.old; arcs = λ k. cond (k == j) (r.arcs k ++ new) (r.arcs k) }
+extended K r j new = record { memory = turned K r.memory j; old = r.old; bodies = λ k. cond (k == j) (r.bodies k ++ map arc new) (r.bodies k) }
 
 -- the recording after some calls; what is refused changes nothing, and a begin starts another
 abbrev pub recording_after : {meets : Meets} {K : Rules} {w v : World} {es : List Event} → Trace meets K w es v → Recording → Recording
@@ -44,7 +44,7 @@ recording_after {K = K} (turns {v = v} t j o f) r =
 pub record Faithful (w : World) (r : Recording) : Type 0 where
   pub four : length w.tape.book.logs ≡ 4
   pub plain : memory_of w ≡ r.memory
-  pub logs : AllHeld w.tape r.old r.arcs
+  pub logs : AllHeld w.tape r.old r.bodies
   pub behind : surplus w.tape.book.sizes w.tape.store ≡ surplus w.tape.book.sizes r.old
 
 -- and so it is after any calls

@@ -1,5 +1,5 @@
 -- Eight runs worked through together, by the definitions of begin, turn, opening, step and run.
-use Rattle.std.specs.Prelude.{List, [], ◌∷◌, ◌≡◌, ℕ, ◌*◌, length, take, replicate}
+use Rattle.std.specs.Prelude.{List, [], ◌∷◌, ◌≡◌, ℕ, ◌*◌, length, map, take, replicate}
 use Rattle.cores.specs.Memory.{Rules, rules}
 use Rattle.cores.specs.Script.{script_next, script_after}
 use Rattle.logs.specs.Lawful.{whole}
@@ -7,7 +7,7 @@ use Rattle.logs.specs.Session.{no_counts}
 use Rattle.recorder.specs.Decided.{turned_by, exactly, nothing}
 use Rattle.recorder.specs.Refusals as book
 use Rattle.recorder.specs.Turns.{World, world, begun}
-use Rattle.records.specs.Format.{LogArc, written}
+use Rattle.records.specs.Format.{LogArc, arc, written}
 use Rattle.records.specs.Settings.{no_sizes, log_of, heading_of}
 use Rattle.records.specs.declared.settings.Sizes.{Sizes}
 use Rattle.reducers.specs.Numbers.{Numbers, zeros}
@@ -46,7 +46,7 @@ after_turns F K w (j ∷ turns) = after_turns F K (turned_by F K j w).leaves tur
 abbrev Logged : World → ℕ → List LogArc → ℕ → Type 0
 Logged w j arcs n =
     let z = w.tape.book.sizes in
-    let bytes = written (whole (heading_of z j) arcs n) in
+    let bytes = written (whole (heading_of z j) (map arc arcs) n) in
     take (length bytes) (log_of w.tape.store z j) ≡ bytes
 
 -- three cores, two cells: 0:1 writes 7 to cell 0, 1:1 reads it, 1:2 writes 9 to cell 1, 2:1 reads it, 2:2 writes 4 to cell 0

@@ -1,11 +1,11 @@
 -- The loop writes log by log.
 use Rattle.std.proofs.Common.{string_bytes}
-use Rattle.bench_listing.specs.Runs.{arcs_logged}
+use Rattle.logs.specs.Arcs.{logged}
 use Rattle.bench_listing.proofs.Arcs.{none_written, log_written}
 use Rattle.bench_listing.proofs.listing.write_logs.Goals as goal
 
 pub loop-core-init : goal.loop-core-init
-loop-core-init c = none_written (arcs_logged c.in-Ok.logs.store.now c.in-Ok.logs.sizes) (string_bytes c.args.out.now)
+loop-core-init c = none_written (logged c.in-Ok.logs.store.now c.in-Ok.logs.sizes) (string_bytes c.args.out.now)
 
 pub loop-core-preserved : goal.loop-core-preserved
 loop-core-preserved c =

@@ -2,7 +2,7 @@
 use Rattle.std.proofs.Common.{◌≡◌, map, reverse, length, vec_items, sym, ap, ◌∙◌, subst, arith}
 use Rattle.std.proofs.lemmas.List.{length-map, take-map, drop-map}
 use Rattle.cores.specs.Memory.{rules}
-use Rattle.records.specs.Settings.{settled, SurplusKept}
+use Rattle.records.specs.Settings.{can_begin, SurplusKept}
 use Rattle.recorder.proofs.Ways.{number_not_zero}
 use Rattle.recorder.specs.Turns.{Tape, tape, world, scene, said, Begun, fresh_tape, headed_from}
 use Rattle.recordings.specs.ByTheRules.{InARow}
@@ -18,7 +18,7 @@ returns-in_err-begin-clause-outcome g c =
     let r = c.in_err-begin.field-0.0 in
     let refused = begun_err a.sizes (length a.cores.now) (length a.cells.now) (tape n c.new-recorder.result a.store.now) (tape n c.begin.new.self c.begin.new.store)
     r (number_not_zero r) c.in_err-begin.ensures.outcome in
-    let never = c.if-not-buffers_hold.ensures ∙ refused.0 in
+    let never = c.if-not-can_begin.ensures ∙ refused.0 in
     cc
 
 pub returns : goal.returns
@@ -41,10 +41,10 @@ returns g c =
     let w = scene n s c.new-recorder.result cores cells store in
     let v = scene n s t.recorder t.cores t.cells t.store in
     let answers = map said (vec_items t.self.turns) in
-    let ok = ap (λ k. settled z k (length cells) (length store)) (length-map cores s) ∙ sym c.if-not-buffers_hold.ensures in
+    let ok = ap (λ k. can_begin z k (length cells) (length store)) (length-map cores s) ∙ sym c.if-not-can_begin.ensures in
     let new = ap (λ (x : Tape). record { store = store; book = x.book; history = x.history; numbers = x.numbers }) c.new-recorder.ensures in
     let began : tape n c.begin.new.self c.begin.new.store ≡ fresh_tape z (headed_from z z.cores 0 store) =
-    ap (λ (x : Begun). x.leaves) (c.in_ok-begin.ensures.outcome ∙ begun_done z (length cores) (length cells) w.tape (sym c.if-not-buffers_hold.ensures)) in
+    ap (λ (x : Begun). x.leaves) (c.in_ok-begin.ensures.outcome ∙ begun_done z (length cores) (length cells) w.tape (sym c.if-not-can_begin.ensures)) in
     let long : length (headed_from z z.cores 0 store) ≡ length store =
     ap (λ (x : Tape). length x.store) (sym began) ∙ (let k : length c.begin.new.store ≡ length store = omega arith in k) in
     let row = subst (λ (x : Tape). InARow meets (rules next after text) (world x cells (map s cores)) (reverse turns) (reverse answers) v) began c.record.ensures.row in

@@ -1,7 +1,7 @@
 -- What a turn that is not refused appends fits, and comes to the entered tape.
 use Rattle.std.proofs.Common.{◌≡◌, ◌+◌, ◌-◌, ◌*◌, ◌≤◌, length, refl, ap, ◌∙◌, arith, rules}
 use Rattle.accesses.specs.Histories.{present}
-use Rattle.records.specs.Format.{end as end_entry, bytes_of, splice}
+use Rattle.records.specs.Format.{end as end_entry, bytes_of, end_size, splice}
 use Rattle.records.specs.declared.settings.Sizes.{Sizes}
 use Rattle.recorder.specs.Refusals.{book, log_in, touched}
 use Rattle.recorder.specs.Turns.{tape, candidates_for}
@@ -32,7 +32,7 @@ log_access-requires-clause-room g c =
 
 -- the end record fits behind the arcs, and they behind the head
 fit : (g : Over) (c : After-log_access g) →
-    let log = c.log_access.new.self in (log.tail.offset + 6 ≤ c.args.self.now.ledger.sizes.log_bytes) × (6 + 7 * log.tail.arcs ≤ log.tail.offset)
+    let log = c.log_access.new.self in (log.tail.offset + end_size ≤ c.args.self.now.ledger.sizes.log_bytes) × (6 + 7 * log.tail.arcs ≤ log.tail.offset)
 fit g c =
     let m = g.R.Reducer in
     let l = c.args.self.now.ledger in
