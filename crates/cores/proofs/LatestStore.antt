@@ -44,7 +44,7 @@ module _ (start cells : List ℕ) (e : Outcome) (es : List Outcome) (c : ℕ) (i
     | inr q ↦ subst (Latest start (e ∷ es) c) (sym (get_or-set_other cells d c v 0 q)) (extend start e es c (get_or cells c 0) (λ n s. q (sym (only n s))) l)
   ]
 
-  after_one : (r : Request) → e.request ≡ r → Latest start (e ∷ es) c (get_or (stored r cells) c 0)
+  pub after_one : (r : Request) → e.request ≡ r → Latest start (e ∷ es) c (get_or (stored r cells) c 0)
   after_one Halt q = extend start e es c (get_or cells c 0) (λ v s. subst (λ r. Stores r c v) q s) l
   after_one Local q = extend start e es c (get_or cells c 0) (λ v s. subst (λ r. Stores r c v) q s) l
   after_one (Read d) q = extend start e es c (get_or cells c 0) (λ v s. subst (λ r. Stores r c v) q s) l

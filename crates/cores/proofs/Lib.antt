@@ -1,4 +1,4 @@
 mod OneCore
 pub mod Storing
-mod LatestStore
+pub mod LatestStore
 pub mod Surplus

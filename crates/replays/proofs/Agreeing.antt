@@ -1,6 +1,9 @@
 -- After any steps and calls since an opening, the replay agrees with the plain memory.
-use Rattle.std.proofs.Common.{◌≡◌, ℕ, ◌-◌, Bool, true, false, cond, ◌≢◌, List, [], ◌∷◌, length, Ok, Err, Result, sym, refl, ap, ◌∙◌, subst, arith}
-use Rattle.cores.specs.Memory.{Rules, rules, Memory, plain}
+use Rattle.std.proofs.Common.{◌≡◌, ℕ, ◌-◌, ◌≤◌, Bool, true, false, cond, ◌≢◌, List, [], ◌∷◌, length, get_or, take, Ok, Err, Result, sym, refl, ap, ◌∙◌, subst, arith}
+use Rattle.std.proofs.lemmas.List.{get_or-take, length-take}
+use Rattle.cores.proofs.Storing.{length_stored}
+use Rattle.cores.specs.Latest.{Latest}
+use Rattle.cores.specs.Memory.{Rules, rules, Memory, plain, outcome, effect, turned, outcomes}
 use Rattle.cores.specs.declared.interface.Request.{Request}
 use Rattle.logs.specs.Session as reading
 use Rattle.records.specs.Faults.{Fault, bad_setting}
@@ -12,13 +15,33 @@ use Rattle.replayer.specs.Runs.{Session, session, one}
 use Rattle.replayer.specs.Steps.{found, reopened}
 use Rattle.replayer.specs.declared.replay.Replayer.{Replayer}
 use Rattle.runs.specs.Recording.{Arc}
-use Rattle.runs.specs.Replay.{Progress, replayed, Replays}
+use Rattle.runs.specs.Replay.{Progress, goes, step, replay, replayed, Replays, StandsBehind, done_of, ReplayState}
 use Rattle.replays.specs.Matches.{Matches, step_says}
 use Rattle.replays.specs.Promise.{StepsAgree, onto}
 use Rattle.replays.specs.Calls.{Stage, stage, Continues, none, steps, runs, not_opened}
 use Rattle.replays.proofs.Answering.{steps_say}
 use Rattle.replays.proofs.Stepping.{steps_match}
 use Rattle.replays.proofs.Walking.{walks_match, runs_finish, Walked}
+
+-- a replay over arcs has as many cells as its memory
+replay_cells : (K : Rules) (L : List Arc) (n : List ℕ) (m : Memory) (σ : List ℕ) → length (replay K L n m σ).memory.cells ≡ length m.cells
+unfolding outcome effect
+replay_cells K L n m [] = refl
+replay_cells K L n m (j ∷ σ) = go (goes K L n (replay K L n m σ).memory j) (replay_cells K L n m σ)
+  where
+    go : (b : Bool) → length (replay K L n m σ).memory.cells ≡ length m.cells → length (cond b (record { memory = turned K (replay K L n m σ).memory j; outcomes = outcome K (replay K L n m σ).memory j ∷ (replay K L n m σ).outcomes }) (replay K L n m σ)).memory.cells ≡ length m.cells
+    go true h = length_stored (outcome K (replay K L n m σ).memory j).request (replay K L n m σ).memory.cells ∙ h
+    go false h = h
+
+-- what holds of the cells and states within the sizes holds of all
+within_buffers : (K : Rules) (m : Memory) (u d : List ℕ) (y : Memory) (C P : ℕ) (cells : List ℕ) (states : List (List ℕ)) → take C cells ≡ y.cells → take P states ≡ y.states →
+    length m.cells ≤ C → length m.states ≤ P → ReplayState K m u d y.cells y.states → ReplayState K m u d cells states
+within_buffers K m u d y C P cells states c s few_cells few_states r = record {
+  cores_stand = λ j h.
+      subst (StandsBehind m.states (outcomes K m u) j (get_or d j 0)) (ap (λ l. get_or l j []) (sym s) ∙ get_or-take P states j [] (omega (arith, h, few_states))) (r.cores_stand j h);
+  cells_hold = λ k h.
+      subst (Latest m.cells (done_of d (outcomes K m u)) k) (ap (λ l. get_or l k 0) (sym c) ∙ get_or-take C cells k 0 (omega (arith, h, few_cells))) (r.cells_hold k h);
+}
 
 module _ (next : List ℕ → List ℕ → Request) (after : List ℕ → List ℕ → ℕ → List ℕ) (text : List ℕ) where
   -- steps leave the sizes
@@ -38,6 +61,13 @@ module _ (next : List ℕ → List ℕ → Request) (after : List ℕ → List �
     abbrev after_steps : List ℕ → Progress
     after_steps σ = replayed K m u L σ
 
+    left_in_buffers : (t : Session) (σ : List ℕ) → length m.states ≡ t.replayer.sizes.cores → Walked n L store 0 t (after_steps σ) → ReplayState K m u (after_steps σ).memory.counts t.cells t.states
+    left_in_buffers t σ size w =
+        let C = t.replayer.sizes.cells in
+        let taken : take C t.cells ≡ (after_steps σ).memory.cells = ap (λ (x : Memory). x.cells) w.matches.memory in
+        let few : length m.cells ≤ C = let a = ap length taken in let b = replay_cells K L n m σ in let c = length-take C t.cells in omega (arith, a, b, c) in
+        within_buffers K m u (after_steps σ).memory.counts (after_steps σ).memory C t.replayer.sizes.cores t.cells t.states taken (ap (λ (x : Memory). x.states) w.matches.memory) few (omega (arith, size)) (rp.agrees σ).leaves
+
     pub agree_at : (t : Session) (σ : List ℕ) → length m.states ≡ t.replayer.sizes.cores → Walked n L store 0 t (after_steps σ) → StepsAgree next after text m u L store t (after_steps σ)
     agree_at t σ size w =
         let c : t.carried ≡ length (after_steps σ).outcomes = omega (arith, w.carried) in
@@ -46,6 +76,7 @@ module _ (next : List ℕ → List ℕ → Request) (after : List ℕ → List �
           matches = w.matches;
           carried = c;
           agrees = rp.agrees σ;
+          leaves = left_in_buffers t σ size w;
           answers = λ j. steps_say next after text n L store t.replayer t.cells t.states (after_steps σ) j w.matches ((rp.agrees σ).unrefused j) ∙ ap (λ k. step_says K k n L (after_steps σ).memory j) (sym size);
           next_step = λ j. steps_match next after text n L store t.replayer t.cells t.states (after_steps σ) j w.matches;
           finishes = (f.0 ∙ ap (λ k. 0 ∷ (length u - k) ∷ []) (sym c), f.1, f.2.1.ready);

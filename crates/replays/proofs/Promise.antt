@@ -38,7 +38,11 @@ use Rattle.recordings.specs.Tracks.{body_of}
 use Rattle.replays.specs.Promise.{ReplaysAsRecorded, LogsHold}
 use Rattle.replays.specs.Replies.{reply, replies, dones}
 use Rattle.replays.proofs.Agreeing.{steps_agree, calls_agree}
-use Rattle.replays.proofs.Replying.{replied, never_stuck}
+use Rattle.replays.proofs.Replying.{replied, dones_are, never_stuck}
+use Rattle.replayer.specs.Memories.{walked}
+use Rattle.runs.proofs.LoggedArcs.{arcs_logged}
+use Rattle.runs.specs.Replay.{ReplayState}
+use Rattle.recordings.specs.Tracks.{run_of}
 
 -- the bytes of a log: its front, and those of its end
 whole_size : (g : Heading) (body : List Entry) (n : ℕ) → length (written (whole g body n)) ≡ length (written (front g body)) + end_size
@@ -84,6 +88,11 @@ module _ (meets : Meets) (bounded : Bounded meets) (next : List ℕ → List ℕ
             subst (λ P. (k : ℕ) → let d = dones P (outcomes K m s.turns) (plain K m s.turns).counts rec.arcs m.counts js in
             get_or d k 0 < get_or (plain K m s.turns).counts k 0 → (j : ℕ) × (get_or d j 0 < get_or (plain K m s.turns).counts j 0) × (counted (reply P (outcomes K m s.turns) (plain K m s.turns).counts rec.arcs d j) ≡ 1)) here
             (never_stuck next after text s.cells s.states s.turns rec.arcs store rec.tracks.accepted rp js (session 0 opened cells states) [] size (record { matches = a.2; carried = omega arith }));
+        left_by = λ js.
+            let t = walked next after text store (session 0 opened cells states) js in
+            let d = dones_are next after text s.cells s.states s.turns rec.arcs store rec.tracks.accepted rp js (session 0 opened cells states) [] size (record { matches = a.2; carried = omega arith }) in
+            let d' = ap (λ P. dones P (outcomes K m s.turns) (plain K m s.turns).counts rec.arcs m.counts js) (sym here) ∙ d in
+            subst (λ c. ReplayState K m s.turns c t.cells t.states) (sym d') (steps_agree next after text m s.turns rec.arcs store rp opened cells states size a.2 js).leaves;
         steps = steps_agree next after text m s.turns rec.arcs store rp opened cells states size a.2;
         calls = λ b c. calls_agree next after text m s.turns rec.arcs store rp (stage opened cells states) b (record { steps = []; matches = a.2; size = size }) c;
       }
@@ -123,6 +132,7 @@ no_dropped_ordering_was_needed meets bounded next after text w v es t new =
       arcs = rec.arcs;
       accepted = rec.tracks.accepted;
       recording = rec.tracks.recording;
+      logged = arcs_logged meets (run_of K (start s.cells s.states) s.turns) v.tape.numbers rec.arcs rec.tracks.recording;
       cells = rec.tracks.cells;
       states = rec.tracks.states;
       logs = logs_hold meets bounded next after text v r s f o rec;

@@ -17,6 +17,7 @@ use Rattle.replays.specs.Replies.{instruction_said, reply, done_after, replies, 
 use Rattle.replays.proofs.Agreeing.{agree_at}
 use Rattle.replays.proofs.Instructions.{found}
 use Rattle.replays.proofs.Walking.{one_walks, Walked}
+use Rattle.replays.specs.Promise.{onto}
 
 leaves_alike : (b c : Bool) (x y l r : List ℕ) → (c ≡ false → l ≡ r) → cond b x (cond c y l) ≡ cond b x (cond c y r)
 leaves_alike true c x y l r h = refl
@@ -105,6 +106,13 @@ module _ (next : List ℕ → List ℕ → Request) (after : List ℕ → List �
   replied (j ∷ js) t σ size w =
       let rest = replied js (one next after text store t j) (j ∷ σ) (size_then t σ size w j) (walks_then t σ size w j) in
       λ i. says_reply t σ size w j i ∷ (rest ∙ ap (λ c. replies (length ss) es n L c js) (counts_are t σ size w j)) i
+
+  -- how many of each core are done behind steps
+  pub dones_are : (js : List ℕ) (t : Session) (σ : List ℕ) → length ss ≡ t.replayer.sizes.cores → Walked n L store 0 t (after_steps σ) →
+      dones (length ss) es n L (after_steps σ).memory.counts js ≡ (after_steps (onto js σ)).memory.counts
+  dones_are [] t σ size w = refl
+  dones_are (j ∷ js) t σ size w =
+      ap (λ c. dones (length ss) es n L c js) (sym (counts_are t σ size w j)) ∙ dones_are js (one next after text store t j) (j ∷ σ) (size_then t σ size w j) (walks_then t σ size w j)
 
   pub never_stuck : (js : List ℕ) (t : Session) (σ : List ℕ) → length ss ≡ t.replayer.sizes.cores → Walked n L store 0 t (after_steps σ) → (k : ℕ) →
       let c = dones (length ss) es n L (after_steps σ).memory.counts js in

@@ -16,13 +16,14 @@ use Rattle.replayer.specs.Memories.{memory_of, walked}
 use Rattle.replayer.specs.Runs.{Session, session, ran}
 use Rattle.replayer.specs.Steps.{Outcome, stepped, reopened}
 use Rattle.replayer.specs.declared.replay.Replayer.{Replayer}
+use Rattle.runs.specs.Logged.{ArcsLogged}
 use Rattle.runs.specs.Recording.{Arc, Recording}
-use Rattle.runs.specs.Replay.{Progress, replayed, Agrees}
+use Rattle.runs.specs.Replay.{Progress, replayed, Agrees, ReplayState}
 use Rattle.traces.specs.Recording.{opened, recording_after}
 use Rattle.traces.specs.Trace.{Event, Trace}
 use Rattle.replays.specs.Calls.{Stage, stage, Continues}
 use Rattle.replays.specs.Matches.{Matches, StepGoes, step_says}
-use Rattle.replays.specs.Replies.{replies, steps_said, NeverStuck}
+use Rattle.replays.specs.Replies.{replies, dones, steps_said, NeverStuck}
 
 -- a recorder that was just made, over any store, cells and cores
 abbrev pub NewRecorder : World → Type 0
@@ -47,6 +48,8 @@ pub record StepsAgree (next : List ℕ → List ℕ → Request) (after : List �
   pub matches : Matches (plain (rules next after text) m u).counts L store t.replayer t.cells t.states p
   pub carried : t.carried ≡ length p.outcomes
   pub agrees : Agrees (rules next after text) m u L p
+  -- each core is in the state that the plain memory left behind the last of its instructions done, each cell holds the latest store among those done
+  pub leaves : ReplayState (rules next after text) m u p.memory.counts t.cells t.states
   -- any further step says by the arcs: no such core, already replayed, waits for the first source that is not done, or what the plain memory does
   pub answers : (j : ℕ) → (stepped next after text t.replayer t.cells t.states store j).says
       ≡ step_says (rules next after text) (length m.states) (plain (rules next after text) m u).counts L p.memory j
@@ -71,6 +74,12 @@ pub record ReplaysAsRecorded (next : List ℕ → List ℕ → Request) (after :
       let K = rules next after text in
       let m = start s.cells s.states in
       NeverStuck z.cores (outcomes K m s.turns) (plain K m s.turns).counts L m.counts
+  -- what any steps leave: each core, and each cell, by the instructions that they carried out
+  pub left_by : (js : List ℕ) →
+      let K = rules next after text in
+      let m = start s.cells s.states in
+      let t : Session = walked next after text store (session 0 (reopened R z (length states) (length cells) store).replayer cells states) js in
+      ReplayState K m s.turns (dones z.cores (outcomes K m s.turns) (plain K m s.turns).counts L m.counts js) t.cells t.states
   -- after any steps, and after any calls
   pub steps : (js : List ℕ) →
       let opened = (reopened R z (length states) (length cells) store).replayer in
@@ -94,6 +103,8 @@ pub record RecordedAndReplayed (meets : Meets) (next : List ℕ → List ℕ →
   pub arcs : List Arc
   pub accepted : Accepted (rules next after text) (start s.cells s.states) s.turns
   pub recording : Recording meets (run_of (rules next after text) (start s.cells s.states) s.turns) v.tape.numbers arcs
+  -- which arcs these are, by how the reducer meets its bounds, and how each log orders them
+  pub logged : ArcsLogged meets (run_of (rules next after text) (start s.cells s.states) s.turns) arcs
   -- cells, states and counts are the plain memory's, and the logs hold exactly those arcs
   pub cells : take v.tape.book.sizes.cells v.cells ≡ (plain (rules next after text) (start s.cells s.states) s.turns).cells
   pub states : take v.tape.book.sizes.cores v.states ≡ (plain (rules next after text) (start s.cells s.states) s.turns).states

@@ -20,6 +20,7 @@ pub mod PlainTurns
 pub mod Cells
 pub mod Views
 pub mod Image
+pub mod Leaving
 pub mod ReplaySteps
 pub mod ReplayFinishes
 pub mod ArcsGuide
@@ -31,3 +32,4 @@ pub mod WorkedRuns
 pub mod Decided
 pub mod LoggedCandidates
 pub mod LatestFirst
+pub mod LoggedArcs

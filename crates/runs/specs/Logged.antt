@@ -52,3 +52,13 @@ LatestFirst r (a ∷ l) =
 abbrev pub TargetsAreLatestFirst : Meets → Type 0
 TargetsAreLatestFirst meets =
     (r : Run) (N : Numbers) (L : List Arc) → Recording meets r N L → (k : ℕ) → LatestFirst r (log k L)
+
+-- Which arcs of a run were logged: to one target from the latest position on, and by how the reducer meets its bounds
+pub record ArcsLogged (meets : Meets) (r : Run) (arcs : List Arc) : Type 0 where
+  pub latest_first : (k : ℕ) → LatestFirst r (log k arcs)
+  -- with equality (exact): just the transitive reduction between cores of the run, each arc once
+  pub exact : ((n b : Numbers) → meets n b → n ≡ b) → ReductionLogged r arcs
+  -- with 0 (keep-all): every candidate
+  pub keep_all : ((n b : Numbers) → meets n b → n ≡ zeros) → arcs ≡ every_candidate r
+  -- with known numbers alone (pairwise): every candidate whose count is above every source count logged from its core to this one
+  pub pairwise : ((n b : Numbers) → meets n b → KnownOnly n b) → arcs ≡ every_newer r

@@ -1,7 +1,8 @@
 -- A replay: steps of cores in any order, each waiting for the arcs to its core's next instruction.
-use Rattle.std.specs.Prelude.{◌≡◌, ℕ, zero, suc, ◌<◌, ◌≤◌, Bool, true, cond, not, ◌&&◌, ◌||◌, ◌⊎◌, ◌↔◌, List, [], ◌∷◌, ◌++◌, length, ◌==◌, nat_le, nat_lt, slice_index}
+use Rattle.std.specs.Prelude.{◌≡◌, ℕ, zero, suc, ◌<◌, ◌≤◌, Bool, true, cond, not, ◌&&◌, ◌||◌, ◌⊎◌, ◌↔◌, List, [], ◌∷◌, ◌++◌, length, Some, ◌==◌, nat_le, nat_lt, slice_index, slice_index_or}
 use Rattle.std.proofs.Math.Option.{Option, none, some}
-use Rattle.cores.specs.Memory.{Rules, Memory, Outcome, outcome, turned, accepts, plain, Accepted, outcomes}
+use Rattle.cores.specs.Latest.{Latest}
+use Rattle.cores.specs.Memory.{Rules, Memory, Outcome, outcome, turned, accepts, plain, Accepted, outcomes, instruction}
 use Rattle.runs.specs.Runs.{Instr, if_same, Earlier, Conflict}
 use Rattle.runs.specs.Recording.{Arc, In, Reach}
 use Rattle.runs.specs.PlainRun.{run}
@@ -63,6 +64,23 @@ abbrev pub InTurn : List Outcome → Type 0
 InTurn [] = Unit {0}
 InTurn (e ∷ l) = (e.count ≡ suc (carried l e.core)) × InTurn l
 
+-- core j, of which b instructions are done, is in this state: its starting state for 0, else the one that instruction b left
+abbrev pub StandsBehind : List (List ℕ) → List Outcome → ℕ → ℕ → List ℕ → Type 0
+StandsBehind first es j zero s = s ≡ slice_index_or first j []
+StandsBehind first es j (suc b) s = (e : Outcome) × (instruction es j (suc b) ≡ Some e) × (s ≡ e.state)
+
+-- of these instructions those that are done, in their order, where d says how many of each core are
+abbrev pub done_of : List ℕ → List Outcome → List Outcome
+done_of d [] = []
+done_of d (e ∷ es) = cond (nat_le e.count (slice_index d e.core)) (e ∷ done_of d es) (done_of d es)
+
+-- cells and states of a replay of the turns u from the memory m, where d says how many instructions of each core are done
+pub record ReplayState (K : Rules) (m : Memory) (u : List ℕ) (d : List ℕ) (cells : List ℕ) (states : List (List ℕ)) : Type 0 where
+  -- each core is in the state that the plain memory left behind the last of its instructions that is done, or in its starting state
+  pub cores_stand : (j : ℕ) → j < length m.states → StandsBehind m.states (outcomes K m u) j (slice_index d j) (slice_index_or states j [])
+  -- each cell holds the number of the latest store to it, in the order of the turns, among the instructions that are done, or the starting number
+  pub cells_hold : (c : ℕ) → c < length m.cells → Latest m.cells (done_of d (outcomes K m u)) c (slice_index cells c)
+
 -- The turns were accepted, the arcs lead forward, and they order every conflict at a place.
 pub record Suffices (place : ℕ → ℕ) (K : Rules) (m : Memory) (u : List ℕ) (arcs : List Arc) : Type 0 where
   pub accepted : Accepted K m u
@@ -76,6 +94,8 @@ pub record Agrees (K : Rules) (m : Memory) (u : List ℕ) (arcs : List Arc) (p :
   pub counts : (j : ℕ) → slice_index p.memory.counts j ≡ carried p.outcomes j
   -- what was carried out is what the plain memory did, up to the counts: core, count, request, number brought and state left
   pub values : (e : Outcome) → In e p.outcomes ↔ (In e (outcomes K m u) × (e.count ≤ slice_index p.memory.counts e.core))
+  -- cells and states are what the instructions done left, in the order of the turns
+  pub leaves : ReplayState K m u p.memory.counts p.memory.cells p.memory.states
   -- a core with an instruction left that does not wait is not refused
   pub unrefused : (j : ℕ) → slice_index p.memory.counts j < slice_index (plain K m u).counts j →
       free arcs p.memory.counts j ≡ true → goes K arcs (plain K m u).counts p.memory j ≡ true

@@ -69,16 +69,6 @@ pub record TurnsRecorded (meets : Meets) (K : Rules) (z : Sizes) (m : Memory) (t
   pub logs : LogsHold z before.store later.store (plain K m accepted).counts arcs
   pub surplus : drop (z.cores * z.log_bytes) later.store ≡ drop (z.cores * z.log_bytes) before.store
 
--- which arcs of a run were logged: to one target from the latest position on, and by how the reducer meets its bounds
-pub record ArcsLogged (meets : Meets) (r : Run) (arcs : List Arc) : Type 0 where
-  pub latest_first : (k : ℕ) → LatestFirst r (log k arcs)
-  -- with equality (exact): just the transitive reduction between cores of the run, each arc once
-  pub exact : ((n b : Numbers) → meets n b → n ≡ b) → ReductionLogged r arcs
-  -- with 0 (keep-all): every candidate
-  pub keep_all : ((n b : Numbers) → meets n b → n ≡ zeros) → arcs ≡ every_candidate r
-  -- with known numbers alone (pairwise): every candidate whose count is above every source count logged from its core to this one
-  pub pairwise : ((n b : Numbers) → meets n b → KnownOnly n b) → arcs ≡ every_newer r
-
 -- the replay, from the plain memory m on, of the accepted turns and their arcs: opened, stepped, and run to its end
 pub record RecordingReplayed (K : Rules) (z : Sizes) (m : Memory) (accepted : List ℕ) (arcs : List Arc) (steps : List ℕ) (a : Answers) : Type 0 where
   -- opening accepts the logs, and each step answers by the plain memory's instructions and the arcs
