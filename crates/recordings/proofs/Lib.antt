@@ -9,3 +9,4 @@ mod Exact
 mod Surplus
 pub mod ByTheRules
 pub mod Decided
+pub mod Feeding

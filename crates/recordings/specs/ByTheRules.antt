@@ -1,6 +1,6 @@
 -- Turns in a row, by the rules: which are refused and with which number, what the others answer, and which arcs they log.
 use Rattle.std.specs.Prelude.{◌≡◌, ℕ, ◌-◌, Bool, true, ◌≢◌, List, [], ◌∷◌, length}
-use Rattle.cores.specs.Memory.{Rules, Memory, outcome, plain, start}
+use Rattle.cores.specs.Memory.{Rules, Memory, outcome, plain, start, fed, unrefused}
 use Rattle.records.specs.declared.settings.Sizes.{Sizes}
 use Rattle.recorder.specs.Turns.{World, Answered, answered, Turned, done_said, ready}
 use Rattle.reducers.specs.Numbers.{Numbers, Meets, zeros}
@@ -9,6 +9,7 @@ use Rattle.runs.specs.PlainRun.{access}
 use Rattle.runs.specs.Recording.{Arc, Judged, Noted}
 use Rattle.runs.specs.Runs.{Event, Run, ev, next}
 use Rattle.traces.specs.Recording.{Recording, Faithful}
+use Rattle.traces.specs.Trace.{refused}
 use Rattle.recordings.specs.Refused.{turn_refusal}
 use Rattle.recordings.specs.Sessions.{Session, Records}
 use Rattle.recordings.specs.Tracks.{run_of, logs_of}
@@ -37,6 +38,18 @@ pub data ByTheRules (meets : Meets) (K : Rules) (z : Sizes) (m : Memory) : List 
   accepts : {js : List ℕ} {says : List (List ℕ)} {u : List ℕ} {N N' : Numbers} {L L' : List Arc} → ByTheRules meets K z m js says u N L →
       (j : ℕ) → turn_refusal K z true (plain K m u) (logs_of j L) j ≡ 0 → Logs meets (run_of K m u) (next_event K m u j) N L N' L' →
       ByTheRules meets K z m (j ∷ js) (plainly_said K m u j (length L' - length L) ∷ says) (j ∷ u) N' L'
+
+-- the core of each turn, and whether its answer is a refusal
+abbrev pub with_refusals : List ℕ → List (List ℕ) → List (ℕ × Bool)
+with_refusals [] says = []
+with_refusals (j ∷ js) [] = []
+with_refusals (j ∷ js) (s ∷ says) = (j, refused s) ∷ with_refusals js says
+
+-- turns by the rules: the accepted ones are those that did not answer a refusal, and the plain memory is fed each turn's core and whether its answer was one
+abbrev pub AnswersFeed : Meets → Type 0
+AnswersFeed meets =
+    (K : Rules) (z : Sizes) (m : Memory) (js : List ℕ) (says : List (List ℕ)) (u : List ℕ) (N : Numbers) (L : List Arc) → ByTheRules meets K z m js says u N L →
+    (u ≡ unrefused (with_refusals js says)) × (plain K m u ≡ fed K m (with_refusals js says))
 
 -- what one turn of j says and leaves, where the recorder stood at v after the turns u with the arcs L logged
 pub data TurnGoes (meets : Meets) (K : Rules) (z : Sizes) (settled : Bool) (m : Memory) (u : List ℕ) (N : Numbers) (L : List Arc) (v : World) (j : ℕ) (o : Answered) : Type 0 where

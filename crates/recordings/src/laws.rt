@@ -1,4 +1,4 @@
-ghost use Rattle.recordings.specs.ByTheRules.{TurnsGoByTheRules};
+ghost use Rattle.recordings.specs.ByTheRules.{TurnsGoByTheRules, AnswersFeed};
 ghost use Rattle.recordings.specs.Decided.{RulesDecide};
 ghost use Rattle.recordings.specs.Surplus.{TurnsKeepTheSurplus};
 ghost use Rattle.recordings.specs.Exact.{ExactRecordsTheReduction};
@@ -15,6 +15,7 @@ pub fn calls_record_the_run<R: Reducer>()
     ensures decided { RulesDecide R.Reducer.meets }
     ensures surplus { TurnsKeepTheSurplus R.Reducer.meets }
     ensures refusals { RefusalsArePlain R.Reducer.meets }
+    ensures fed { AnswersFeed R.Reducer.meets }
     ensures new { NewHasRecordedNothing R.Reducer.meets }
 {}
 
