@@ -84,6 +84,14 @@ impl<R: Reducer> Recorder<R> {
         }
     }
 
+    // Gives the reducer back, with its numbers.
+    pub fn into_reducer(self) -> R
+        ensures { R.Reducer.numbers result ≡ (tape R.Reducer.numbers self []).numbers }
+    {
+        let Recorder { reducer, .. } = self;
+        reducer
+    }
+
     // Starts a recording. A refusal changes nothing.
     pub fn begin<K>(
         &mut self,

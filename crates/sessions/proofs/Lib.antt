@@ -1,3 +1,4 @@
 mod Rows
+mod Spaces
 mod Walks
 mod Wholes

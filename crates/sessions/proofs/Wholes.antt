@@ -4,7 +4,7 @@ use Rattle.std.proofs.lemmas.List.{take_all, length-take-le, take-append-drop}
 use Rattle.std.proofs.lemmas.Bool.{and_parts, and_from, leb-true, le-leb}
 use Rattle.std.specs.List.{AllByRecursion}
 use Rattle.cores.proofs.Storing.{cells_size, states_size}
-use Rattle.cores.specs.Memory.{Rules, rules, Memory, plain, start}
+use Rattle.cores.specs.Memory.{Rules, rules, Memory, plain, start, outcomes}
 use Rattle.cores.specs.declared.interface.Request.{Request}
 use Rattle.lawful_logs.proofs.Orderly.{traces_are_orderly, new_is_orderly}
 use Rattle.lawful_logs.specs.Orderly.{Orderly}
@@ -23,21 +23,19 @@ use Rattle.replayer.specs.Runs.{Session, one}
 use Rattle.replayer.specs.Steps.{Outcome, started}
 use Rattle.replays.proofs.Promise.{replays_as_recorded, logs_hold}
 use Rattle.replays.specs.Promise.{NewRecorder, SameStart, ReplaysAsRecorded, LogsHold}
-use Rattle.replays.specs.Replies.{steps_said, carried_out}
-use Rattle.reducers.specs.Numbers.{Meets, zeros}
-use Rattle.reducers.specs.Rows.{KnownOnly}
-use Rattle.runs.proofs.AnyReducer.{replay_agrees_with}
-use Rattle.runs.proofs.ExactIsReduction.{exact_logs_the_reduction}
-use Rattle.runs.proofs.LatestFirst.{targets_are_latest_first}
-use Rattle.runs.proofs.LoggedCandidates.{keep_all_logs_every_candidate, pairwise_logs_what_is_newer}
-use Rattle.runs.proofs.RecordingsExist.{weakened}
+use Rattle.replays.specs.Replies.{steps_said, dones, carried_out}
+use Rattle.reducers.specs.Numbers.{Numbers, Meets}
+use Rattle.runs.proofs.LoggedArcs.{arcs_logged}
+use Rattle.runs.specs.Replay.{ReplayState}
+use Rattle.recordings.proofs.Decided.{rules_decide}
+use Rattle.recordings.proofs.Feeding.{answers_feed}
 use Rattle.runs.specs.Recording.{Arc}
 use Rattle.runs.specs.Theorems.{Bounded}
 use Rattle.traces.proofs.Recordings.{begun_done, traces_are_faithful, new_is_faithful}
 use Rattle.traces.specs.Recording as traced
 use Rattle.traces.specs.Trace.{Event, Trace, began, refused}
 use Rattle.traces.specs.Trace as trace
-use Rattle.sessions.specs.Replaying.{first_opening, said_by_steps, run_behind, at_opening}
+use Rattle.sessions.specs.Replaying.{first_opening, said_by_steps, behind_steps, run_behind, at_opening}
 use Rattle.sessions.specs.Whole.{buffers, Answers, Whole}
 
 -- turns keep the bytes from the begin
@@ -192,33 +190,37 @@ module _ (meets : Meets) (bounded : Bounded meets) (next : List ℕ → List ℕ
   old_is : recording.old ≡ w.tape.store
   old_is = old_kept first begin_event row
 
-  pub whole : (a : Answers) → a.turns ≡ says → a.opened ≡ (first_opening z cells₁ states₁ store).says → a.steps ≡ said_by_steps next after text store z cells₁ states₁ steps →
+  pub whole : (a : Answers) → a.turns ≡ says → a.numbers ≡ v.tape.numbers → a.opened ≡ (first_opening z cells₁ states₁ store).says → a.steps ≡ said_by_steps next after text store z cells₁ states₁ steps →
+      a.stepped_cells ≡ (behind_steps next after text store z cells₁ states₁ steps).cells → a.stepped_states ≡ (behind_steps next after text store z cells₁ states₁ steps).states →
+      length a.stepped_cells ≡ length cells₁ → length a.stepped_states ≡ length states₁ →
       a.ended ≡ run.says → a.cells ≡ run.cells → a.states ≡ run.states → length a.cells ≡ length cells₁ → length a.states ≡ length states₁ →
       Whole meets K z turns steps (buffers w.cells w.states w.tape.store) (buffers v.cells v.states store) a
-  whole a turned opened replied ended cells states cells_long states_long =
+  whole a turned numbered opened replied stepped_cells stepped_states many_stepped_cells many_stepped_states ended cells states cells_long states_long =
+      let by_rules : ByTheRules meets K z m (reverse turns) (reverse a.turns) u a.numbers L =
+      subst (λ ss. ByTheRules meets K z m (reverse turns) (reverse ss) u a.numbers L) (sym turned) (subst (λ N. ByTheRules meets K z m (reverse turns) (reverse says) u N L) (sym numbered) account.rules) in
+      let feed = answers_feed meets K z m (reverse turns) (reverse a.turns) u a.numbers L by_rules in
       let logs = logs_hold meets bounded next after text v recording own faithful orderly kept in
       record {
         recorded = record {
           accepted = u;
-          numbers = v.tape.numbers;
           arcs = L;
-          rules = subst (λ ss. ByTheRules meets K z m (reverse turns) (reverse ss) u v.tape.numbers L) (sym turned) account.rules;
+          rules = by_rules;
+          unrefused_ones = feed.0;
+          fed_answers = feed.1;
           cells = parts z.cells v.cells last.cells _ account.tracks.cells beyond_cells;
           states = parts z.cores v.states last.states _ account.tracks.states beyond_states;
           logs = subst (λ old. LogsHold z old store last.counts L) old_is (subst (λ y. LogsHold y recording.old store last.counts L) sizes logs);
           surplus = subst (λ old. surplus z store ≡ surplus z old) old_is (subst (λ y. surplus y store ≡ surplus y recording.old) sizes faithful.behind);
         };
-        logged = record {
-          latest_first = targets_are_latest_first meets (run_of K m u) v.tape.numbers L account.tracks.recording;
-          exact = λ h. exact_logs_the_reduction (run_of K m u) v.tape.numbers L (weakened meets ◌≡◌ h account.tracks.recording);
-          keep_all = λ h. keep_all_logs_every_candidate (run_of K m u) v.tape.numbers L (weakened meets (λ n _. n ≡ zeros) h account.tracks.recording);
-          pairwise = λ h. pairwise_logs_what_is_newer (run_of K m u) v.tape.numbers L (weakened meets KnownOnly h account.tracks.recording);
-        };
+        logged = arcs_logged meets (run_of K m u) v.tape.numbers L account.tracks.recording;
+        decided = λ R one. rules_decide meets R one K z m (reverse turns) (reverse a.turns) u a.numbers L by_rules;
         replayed = record {
           opens = opened ∙ replay.opens;
           replied = replied ∙ replay.replied steps;
           never_stuck = replay.never_stuck;
-          replays = replay_agrees_with meets bounded K (λ c. c) cells₁ states₁ u account.tracks.accepted v.tape.numbers L account.tracks.recording;
+          stepped = subst (λ c. ReplayState K m u (dones z.cores (outcomes K m u) (plain K m u).counts L m.counts steps) c a.stepped_states) (sym stepped_cells)
+              (subst (ReplayState K m u (dones z.cores (outcomes K m u) (plain K m u).counts L m.counts steps) (behind_steps next after text store z cells₁ states₁ steps).cells) (sym stepped_states) (replay.left_by steps));
+          as_many = (many_stepped_cells ∙ many.1, many_stepped_states ∙ many.0);
           finishes = ended ∙ finish.0 ∙ ap (λ l. 0 ∷ (length u - carried_out l) ∷ []) (sym replied);
           last_cells = cells ∙ finish.1 (ap length (sym cells) ∙ cells_long);
           last_states = states ∙ finish.2 (ap length (sym states) ∙ states_long);

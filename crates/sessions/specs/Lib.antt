@@ -1,3 +1,3 @@
 pub mod Replaying
 pub mod Whole
-pub mod Rooms
+pub mod Space

@@ -22,6 +22,10 @@ module _ (next : List ℕ → List ℕ → Request) (after : List ℕ → List �
   abbrev pub said_by_steps : List ℕ → List (List ℕ)
   said_by_steps steps = steps_said next after text store at_opening steps
 
+  -- where they come
+  abbrev pub behind_steps : List ℕ → Session
+  behind_steps steps = walked next after text store at_opening steps
+
   -- what the run behind the steps says and leaves
   abbrev pub run_behind : List ℕ → Outcome
-  run_behind steps = let s : Session = walked next after text store at_opening steps in ran next after text store s.replayer s.cells s.states
+  run_behind steps = ran next after text store (behind_steps steps).replayer (behind_steps steps).cells (behind_steps steps).states

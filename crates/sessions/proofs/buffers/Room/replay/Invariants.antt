@@ -3,7 +3,7 @@ use Rattle.std.proofs.Common.{◌≡◌, ◌≤◌, map, length, vec_items, vec_
 use Rattle.replayer.specs.Answers.{step_numbers}
 use Rattle.replayer.specs.Runs.{session}
 use Rattle.sessions.proofs.Walks.{GoesOn}
-use Rattle.sessions.proofs.session.Room.replay.Given as goal
+use Rattle.sessions.proofs.buffers.Room.replay.Given as goal
 
 abbrev pub invariant-loop-j : goal.invariant-loop-j
 invariant-loop-j g l =

@@ -4,7 +4,7 @@ use Rattle.cores.specs.Memory.{rules}
 use Rattle.records.specs.Settings.{SurplusKept}
 use Rattle.recorder.specs.Turns.{scene, said}
 use Rattle.recordings.specs.ByTheRules.{InARow}
-use Rattle.sessions.proofs.session.Room.record.Given as goal
+use Rattle.sessions.proofs.buffers.Room.record.Given as goal
 
 abbrev pub invariant-loop-j : goal.invariant-loop-j
 invariant-loop-j g l =
@@ -17,4 +17,4 @@ invariant-loop-j g l =
     × InARow g.R.Reducer.meets (rules g.K.Core.next g.K.Core.after l.text)
     (scene n s l.initial.recorder l.initial.cores l.initial.cells l.initial.store)
     (reverse (take l.j-index l.turns)) (reverse (map said (vec_items l.self.turns))) (scene n s l.recorder l.cores l.cells l.store)
-    × ((l.self.steps ≡ l.initial.self.steps) × (l.self.cells ≡ l.initial.self.cells) × (l.self.cores ≡ l.initial.self.cores))
+    × ((l.self.steps ≡ l.initial.self.steps) × (l.self.stepped_cells ≡ l.initial.self.stepped_cells) × (l.self.stepped_cores ≡ l.initial.self.stepped_cores) × (l.self.cells ≡ l.initial.self.cells) × (l.self.cores ≡ l.initial.self.cores))

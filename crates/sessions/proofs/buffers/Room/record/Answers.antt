@@ -6,7 +6,7 @@ use Rattle.records.specs.Settings.{SurplusKept}
 use Rattle.recorder.specs.Turns.{scene, said, answered}
 use Rattle.recordings.proofs.ByTheRules.{turn_sizes}
 use Rattle.sessions.proofs.Rows.{row_starts, row_goes}
-use Rattle.sessions.proofs.session.Room.record.Goals as goal
+use Rattle.sessions.proofs.buffers.Room.record.Goals as goal
 
 pub loop-j-init : goal.loop-j-init
 loop-j-init g c =
@@ -18,7 +18,7 @@ loop-j-init g c =
       refl,
       (refl, refl),
       row_starts g.R.Reducer.meets (rules g.K.Core.next g.K.Core.after a.text.now) (scene n s a.recorder.now a.cores.now a.cells.now a.store.now) (vec_items a.self.now.turns) c.requires.0,
-      (refl, refl, refl),
+      (refl, refl, refl, refl, refl),
     )
 
 pub loop-j-preserved : goal.loop-j-preserved

@@ -2,7 +2,7 @@
 use Rattle.std.proofs.Common.{map, vec_items, arith}
 use Rattle.replayer.specs.Runs.{session}
 use Rattle.sessions.proofs.Walks.{goes_on}
-use Rattle.sessions.proofs.session.Room.replay.Goals as goal
+use Rattle.sessions.proofs.buffers.Room.replay.Goals as goal
 
 pub loop-j-preserved : goal.loop-j-preserved
 loop-j-preserved g c =
