@@ -33,7 +33,7 @@ module _ (meets : Meets) (K : Rules) (z : Sizes) (turns : List ℕ) (before late
   first_is : first_memory z before ≡ m
   first_is = λ i. start (take_all z.cells before.cells (omega (arith, many_cells)) i) (take_all z.cores before.states (omega (arith, many_cores)) i)
 
-  abbrev r : TurnsRecorded meets K z (first_memory z before) turns a.turns before later
+  abbrev r : TurnsRecorded meets K z (first_memory z before) turns a.turns a.numbers before later
   r = w.recorded
 
   -- the run carries out every accepted turn
@@ -53,9 +53,9 @@ module _ (meets : Meets) (K : Rules) (z : Sizes) (turns : List ℕ) (before late
       record {
         says = reverse a.turns;
         accepted = r.accepted;
-        numbers = r.numbers;
+        numbers = a.numbers;
         arcs = r.arcs;
-        recorded = subst (λ x. ByTheRules meets K z x (reverse turns) (reverse a.turns) r.accepted r.numbers r.arcs) first_is r.rules;
+        recorded = subst (λ x. ByTheRules meets K z x (reverse turns) (reverse a.turns) r.accepted a.numbers r.arcs) first_is r.rules;
         lines = lines ∙ (λ i. text_of (run_lines (arcs i) (cells i) (steps_are steps ended i)))
             ∙ ap (λ (x : Memory). text_of (lines_of K z.cores x r.accepted r.arcs)) first_is;
       }

@@ -23,7 +23,8 @@ use reducers::interface::Reducer;
 use reducers::keep_all::KeepAll;
 use reducers::pairwise::Pairwise;
 use replayer::answers::Ended;
-use sessions::session::{SessionError, record_and_replay};
+use sessions::buffers::SessionBuffers;
+use sessions::session::record_and_replay;
 use std::alloc::{AllocError, Global};
 
 // The bytes of each core's log.
@@ -55,8 +56,9 @@ fn list_session<K: Core, R: Reducer + Drop>(
     requires lengths { (length cores.old ≡ sizes.cores) × (length cells.old ≡ sizes.cells) }
     ensures { IfOk result (λ s. Told R.Reducer.meets (rules K.Core.next K.Core.after text.now) sizes (start cells.old (map K.Core.state cores.old)) turns.now (string_bytes s)) }
 {
+    let space = SessionBuffers::reserve(heap, sizes, turns.len(), 0)?;
     let session = match record_and_replay(
-        heap,
+        space,
         reducer,
         sizes,
         text,
@@ -67,9 +69,8 @@ fn list_session<K: Core, R: Reducer + Drop>(
         &[],
     ) {
         Ok(session) => session,
-        Err(SessionError::NoMemory) => return Err(AllocError),
-        // the sizes fit
-        Err(SessionError::Refused(_)) => unreachable(),
+        // the sizes fit, and the space suffices
+        Err(_) => unreachable(),
     };
     list_run(heap, store, sizes, cells, finished_steps(session.ended))
 }

@@ -1,4 +1,4 @@
-mod OneCore
+pub mod OneCore
 pub mod Storing
 pub mod LatestStore
 pub mod Surplus

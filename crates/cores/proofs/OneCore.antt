@@ -4,7 +4,7 @@ use Rattle.std.proofs.lemmas.List.{get_or-map, map-set, take-set, drop-set-lt}
 use Rattle.cores.specs.Acting.{told, OthersKept}
 
 module _ {K : Type 0} (state : K → List ℕ) (text : List ℕ) (cores : List K) (j : ℕ) where
-  here : j < length cores → (core : K) → core ≡ get_or cores j core → get_or (map state cores) j [] ≡ state core
+  pub here : j < length cores → (core : K) → core ≡ get_or cores j core → get_or (map state cores) j [] ≡ state core
   here h core at = get_or-map state cores j core [] h ∙ ap state (sym at)
 
   pub tells : (after : List ℕ → List ℕ → ℕ → List ℕ) (number : ℕ) → j < length cores → (core : K) → core ≡ get_or cores j core → (later : K) → state later ≡ after text (state core) number →

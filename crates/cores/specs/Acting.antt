@@ -1,5 +1,5 @@
 -- A request of one core of several, and what it does to the cells and to that core.
-use Rattle.std.specs.Prelude.{◌≡◌, ℕ, ◌+◌, Bool, true, cond, List, [], ◌∷◌, length, take, drop, Some, None, Option, nat_lt, slice_index_or, slice_set}
+use Rattle.std.specs.Prelude.{◌≡◌, ℕ, ◌+◌, Bool, true, List, [], ◌∷◌, take, drop, nat_lt, slice_index_or, slice_set}
 use Rattle.cores.specs.declared.interface.Request.{Request}
 use Rattle.cores.specs.declared.interface.Request.TheVariants.{Halt, Local, Read, Write, Exchange}
 
@@ -18,10 +18,6 @@ within Local count = true
 within (Read cell) count = nat_lt cell count
 within (Write cell number) count = nat_lt cell count
 within (Exchange cell number) count = nat_lt cell count
-
--- what core j requests, if there is such a core
-abbrev pub requested : (List ℕ → List ℕ → Request) → List ℕ → List (List ℕ) → ℕ → Option Request
-requested next text states j = cond (nat_lt j (length states)) (Some (next text (slice_index_or states j []))) None
 
 -- the states once core j is told a number
 abbrev pub told : (List ℕ → List ℕ → ℕ → List ℕ) → List ℕ → List (List ℕ) → ℕ → ℕ → List (List ℕ)

@@ -1,18 +1,9 @@
-// The parts of which a turn and a step are made: a core's request, what it does to the cells, and telling the core.
-ghost use Rattle.std.specs.Prelude.{◌≡◌, map, slice_index, slice_set};
-ghost use Rattle.cores.specs.Acting.{within, requested, told, OthersKept};
+// What a request does to the cells.
+ghost use Rattle.std.specs.Prelude.{◌≡◌, slice_index, slice_set};
+ghost use Rattle.cores.specs.Acting.{within};
 ghost use Rattle.cores.specs.Memory.{brought, stored};
 
-use crate::interface::{Core, Request};
-
-// What core `j` requests, if there is such a core.
-#[inline(always)]
-pub fn request_of<K: Core>(text: &[u8], cores: &[K], j: usize) -> Option<Request>
-    ensures { result ≡ requested K.next text.now (map K.state cores.now) j }
-{
-    let core = *cores.get(j)?;
-    Some(core.ask(text))
-}
+use crate::interface::Request;
 
 // Whether the request names no cell at or above `cell_count`.
 #[inline(always)]
@@ -64,25 +55,4 @@ fn store(cells: &mut [u16], cell: u16, number: u16)
     if at < cells.len() {
         cells[at] = number;
     }
-}
-
-// Tells core `j` a number: the core is copied out, told and written back. Where there is no such core, nothing changes.
-#[inline(always)]
-pub fn tell_core<K: Core>(text: &[u8], cores: &mut [K], j: usize, number: u16)
-    ensures states { map K.state cores.new ≡ told K.after text.now (map K.state cores.old) j number }
-    ensures others { OthersKept j cores.old cores.new }
-{
-    if j < cores.len() {
-        let core = cores[j];
-        cores[j] = told_copy(text, core, number);
-    }
-}
-
-#[inline(always)]
-fn told_copy<K: Core>(text: &[u8], core: K, number: u16) -> K
-    ensures { K.state result ≡ K.after text.now (K.state core) number }
-{
-    let mut later = core;
-    later.tell(text, number);
-    later
 }

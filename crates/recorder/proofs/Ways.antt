@@ -2,7 +2,6 @@
 use Rattle.std.proofs.Common.{◌≡◌, ℕ, ◌+◌, ◌<◌, ◌≤◌, Bool, true, false, cond, eqb, ltb, List, [], ◌∷◌, map, length, get_or, take, set, Some, None, sym, refl, ap, ◌∙◌, subst, arith}
 use Rattle.std.proofs.lemmas.List.{length-map, length-take-le, take-map, get_or-take}
 use Rattle.std.proofs.lemmas.Bool.{cond-true, cond-false, eq-eqb, ne_eqb, le-leb, lt-leb, ltb-true, ltb-false}
-use Rattle.cores.specs.Acting.{requested}
 use Rattle.cores.specs.Memory.{Rules, rules, brought, stored}
 use Rattle.cores.specs.declared.interface.Request.{Request}
 use Rattle.records.specs.Settings.{settled}
@@ -55,34 +54,6 @@ module _ (meets : Meets) (K : Rules) (j : ℕ) (w : World) where
             ∙ sym (cond-true (eqb (refusal K j w) 0) _ _ (eq-eqb (refusal K j w) 0 ok));
       }
 
--- what one of the first P cores requests
-module _ {K : Type 0} (state : K → List ℕ) (next : List ℕ → List ℕ → Request) (text : List ℕ) (P : ℕ) (cores : List K) (enough : P ≤ length cores) (j : ℕ) where
-  abbrev front : List (List ℕ)
-  front = map state (take P cores)
-
-  front_is : front ≡ take P (map state cores)
-  front_is = sym (take-map state P cores)
-
-  long : length front ≡ P
-  long = ap length front_is ∙ length-take-le P (map state cores) (omega (arith, enough, length-map cores state))
-
-  none_asked : None ≡ requested next text front j → P ≤ j
-  none_asked e = go (ltb j (length front)) refl e
-    where
-      go : (v : Bool) → ltb j (length front) ≡ v → None ≡ cond v (Some (next text (get_or front j []))) None → P ≤ j
-      go true q d = absurd cc
-      go false q d = omega (arith, ltb-false j (length front) q, long)
-
-  one_asked : (request : Request) → Some request ≡ requested next text front j → (j < P) × (request ≡ next text (get_or (map state cores) j []))
-  one_asked request e = go (ltb j (length front)) refl e
-    where
-      go : (v : Bool) → ltb j (length front) ≡ v → Some request ≡ cond v (Some (next text (get_or front j []))) None → (j < P) × (request ≡ next text (get_or (map state cores) j []))
-      go true q d =
-          let below : j < P = omega (arith, ltb-true j (length front) q, long) in
-          let same : request ≡ next text (get_or front j []) = cc in
-          (below, same ∙ ap (λ (s : List (List ℕ)). next text (get_or s j [])) front_is ∙ ap (next text) (get_or-take P (map state cores) j [] below))
-      go false q d = absurd cc
-
 module _
     {K : Type 0} (state : K → List ℕ) (meets : Meets)
     (next : List ℕ → List ℕ → Request) (after : List ℕ → List ℕ → ℕ → List ℕ)
@@ -104,20 +75,13 @@ module _
       pub enough : t.book.sizes.cores ≤ length cores
       enough = (settled_parts t.book.sizes (length cores) (length cells) (length t.store) (sym set_up)).1
 
-      pub no_core : None ≡ requested next text (map state (take t.book.sizes.cores cores)) j → Turned meets kind j before (answered (1 ∷ []) before)
+      pub no_core : t.book.sizes.cores ≤ j → Turned meets kind j before (answered (1 ∷ []) before)
       unfolding refusal
-      no_core e =
-          let h = none_asked state next text t.book.sizes.cores cores enough j e in
+      no_core h =
           let is : refusal kind j before ≡ 1 = simp (length-map, ← set_up, le-leb t.book.sizes.cores j h) in
           refused_is meets kind j before 1 is (λ q. omega arith)
 
-      module _ (request : Request) (e : Some request ≡ requested next text (map state (take t.book.sizes.cores cores)) j) where
-        pub below : j < t.book.sizes.cores
-        below = (one_asked state next text t.book.sizes.cores cores enough j request e).0
-
-        asked : request ≡ next text (get_or (map state cores) j [])
-        asked = (one_asked state next text t.book.sizes.cores cores enough j request e).1
-
+      module _ (below : j < t.book.sizes.cores) (request : Request) (asked : request ≡ next text (get_or (map state cores) j [])) where
         reached : refusal kind j before ≡ barred t.book j request
         unfolding refusal
         reached =

@@ -11,7 +11,7 @@ use crate::ledger::{Ledger, Log};
 use crate::rules::Refusal;
 use accesses::access::Access;
 use accesses::history::History;
-use cores::acting::{act, request_of, tell_core};
+use cores::acting::act;
 use cores::interface::{Core, Request};
 use records::format::Record;
 use records::settings::{Heading, Sizes, buffers_hold, can_begin};
@@ -164,12 +164,16 @@ impl<R: Reducer> Recorder<R> {
         if !buffers_hold(sizes, cores.len(), cells.len(), store.len()) {
             return Err(Refusal::BadSetting);
         }
-        let session = &cores[..sizes.cores];
-        let request = request_of(text, session, j).ok_or(Refusal::NoSuchCore)?;
+        if j >= sizes.cores {
+            return Err(Refusal::NoSuchCore);
+        }
+        let mut core = cores[j];
+        let request = core.ask(text);
         self.ledger.admit(j, request)?;
         let (count, arcs) = self.enter(store, j, request);
         let number = act(request, cells);
-        tell_core(text, cores, j, number);
+        core.tell(text, number);
+        cores[j] = core;
         Ok(Recorded {
             request,
             count,

@@ -4,7 +4,7 @@ use Rattle.std.proofs.lemmas.Bool.{le-leb, lt-leb, lt-ltb, leb-true, and_parts, 
 use Rattle.std.proofs.lemmas.List.{length-map, get_or_default}
 use Rattle.cores.specs.declared.interface.Request.{Request}
 use Rattle.cores.specs.declared.interface.Request.TheVariants.{Halt, Local, Read, Write, Exchange}
-use Rattle.cores.specs.Acting.{within, requested, told}
+use Rattle.cores.specs.Acting.{within, told}
 use Rattle.cores.specs.Memory.{able, brought, stored}
 use Rattle.records.specs.declared.faults.Refusal.{Refusal}
 use Rattle.records.specs.declared.faults.Refusal.TheVariants.{BadSetting as Unfit, LogFault as Faulty}
@@ -120,15 +120,10 @@ module _
       waiting s h = barred (wait_numbers s) (ap (λ w. freed w g.place) (sym h) ∙ read)
 
       module _ (may : MayGo R (length cores) j) (free : g.waits ≡ None) where
-        there : ltb j (length (map state cores)) ≡ true
-        there = ap (ltb j) (length-map cores state) ∙ lt-ltb j (length cores) (omega (arith, may.known, may.enough))
-
-        module _ (request : Request) (ask : Some request ≡ requested next text (map state cores) j) where
+        module _ (request : Request) (ask : request ≡ next text (get_or (map state cores) j [])) where
           carries : asked next after text R cells (map state cores) j g.place request ≡ turn
           carries =
-              let q : Some request ≡ Some (next text (get_or (map state cores) j [])) = ask ∙ cond-true (ltb j (length (map state cores))) _ _ there in
-              let same : request ≡ next text (get_or (map state cores) j []) = cc in
-              ap (asked next after text R cells (map state cores) j g.place) same ∙ goes_on (Ok g.place) (ap (λ w. freed w g.place) (sym free) ∙ read)
+              ap (asked next after text R cells (map state cores) j g.place) ask ∙ goes_on (Ok g.place) (ap (λ w. freed w g.place) (sym free) ∙ read)
 
           pub halted : request ≡ Halt → still (2 ∷ []) ≡ turn
           halted h = ap (asked next after text R cells (map state cores) j g.place) (sym h) ∙ carries
@@ -151,7 +146,7 @@ module _
                 is ∙ sym (cond-true (able request R.sizes.cells) _ _ (able_within request R.sizes.cells runs ∙ sym h)) ∙ carries
 
       -- a core that does not go on says why, and nothing changes
-      pub stays : MayGo R (length cores) j → (request : Request) → Some request ≡ requested next text (map state cores) j → (e : StepRefusal) (later : Replayer) →
+      pub stays : MayGo R (length cores) j → (request : Request) → request ≡ next text (get_or (map state cores) j []) → (e : StepRefusal) (later : Replayer) →
           WentOn (Err e) R j g request later → ◌≡◌ {A = Outcome} (record { says = step_refusal e; replayer = later; cells = cells; states = map state cores }) turn
       stays may request ask (Waits s) later w = left (wait_numbers s) w.1 ∙ waiting s w.0
       stays may request ask Halted later w = left (2 ∷ []) w.2 ∙ halted may w.0 request ask w.1

@@ -8,7 +8,7 @@ ghost use Rattle.replayer.specs.Runs.{left, session, circled, ran};
 
 use crate::answers::{Done, Ended, StepRefusal};
 use crate::group::{Group, read_group};
-use cores::acting::{act, cell_exists, request_of, tell_core};
+use cores::acting::{act, cell_exists};
 use cores::interface::{Core, Request};
 use logs::session::read_logs;
 use records::faults::Refusal;
@@ -148,11 +148,12 @@ impl Replayer {
         ensures surplus { SurplusKept self.old.sizes cores.old cores.new cells.old cells.new }
     {
         let group = self.group(cores.len(), cells.len(), store, j)?;
-        // there are as many cores as the sizes say, so core `j` is one of them
-        let request = request_of(text, cores, j).ok_or(StepRefusal::NoSuchCore)?;
+        let mut core = cores[j];
+        let request = core.ask(text);
         let count = self.go_on(j, group, request)?;
         let number = act(request, cells);
-        tell_core(text, cores, j, number);
+        core.tell(text, number);
+        cores[j] = core;
         Ok(Done {
             request,
             count,

@@ -15,7 +15,8 @@ mod tests {
     use reducers::keep_all::KeepAll;
     use reducers::pairwise::Pairwise;
     use replayer::answers::{Done, Ended, StepRefusal};
-    use sessions::session::{Session, SessionError, record_and_replay};
+    use sessions::buffers::SessionBuffers;
+    use sessions::session::{NoSession, Session, record_and_replay};
     use std::alloc::Global;
     use std::process::Abort;
     use std::test::Fail;
@@ -45,12 +46,8 @@ mod tests {
         }
     }
 
-    // A refusal's code, 0 for want of memory.
-    fn error_code(error: SessionError) -> u16 {
-        match error {
-            SessionError::Refused(refusal) => code(refusal),
-            SessionError::NoMemory => 0,
-        }
+    fn error_code<K: Core, R: Reducer + Drop>(error: NoSession<K, R>) -> u16 {
+        code(error.refusal)
     }
 
     // A refusal's code, and with 6 the core and count waited for.
@@ -133,23 +130,26 @@ mod tests {
         Ok(())
     }
 
-    // What each turn and each step answers, how many steps the run then carries out, and the replay's cells behind it.
+    // What each turn and each step answers, the replay's cells behind the steps, how many steps the run then carries out,
+    // and the replay's cells behind it.
     #[derive(Clone, Copy)]
     struct Expected<'a> {
         turns: &'a [Turn],
         steps: &'a [Step],
+        stepped: &'a [u16],
         run: u32,
         cells: &'a [u16],
     }
 
-    fn session_is<K>(
+    fn session_is<K, R>(
         rt: &impl Abort,
-        session: &Session<K>,
+        session: &Session<K, R>,
         expected: Expected,
     ) -> Result<(), Fail> {
         turns_are(rt, session.turns.as_slice(), expected.turns)?;
         assert!(rt; session.opened.is_ok());
         steps_are(rt, session.steps.as_slice(), expected.steps)?;
+        assert_eq!(rt; session.stepped_cells.as_slice(), expected.stepped);
         assert_eq!(rt; finished(session.ended), Some(expected.run));
         assert_eq!(rt; session.cells.as_slice(), expected.cells);
         Ok(())
@@ -171,14 +171,16 @@ mod tests {
         log_bytes: usize,
         turns: &[usize],
         steps: &[usize],
-    ) -> Result<(Session<ScriptCore>, [u16; 2]), Fail> {
+    ) -> Result<(Session<ScriptCore, R>, [u16; 2]), Fail> {
         let mut cores = worked_cores();
         let mut cells = [0; 2];
         let mut store = [0; 99];
+        let asked = sizes(3, 2, log_bytes);
+        let space = SessionBuffers::reserve(heap, asked, turns.len(), steps.len())?;
         let session = record_and_replay(
-            heap,
+            space,
             reducer,
-            sizes(3, 2, log_bytes),
+            asked,
             WORKED,
             &mut cores,
             &mut cells,
@@ -217,6 +219,7 @@ mod tests {
                 Ok((read(0), 1, 7)),
                 Err([6, 1, 2]),
             ],
+            stepped: &[7, 0],
             run: 3,
             cells: &[4, 9],
         };
@@ -262,6 +265,7 @@ mod tests {
                 Ok((write(0, 4), 2, 0)),
                 Err([7, 0, 0]),
             ],
+            stepped: &[4, 9],
             run: 0,
             cells: &[4, 9],
         };
@@ -293,6 +297,7 @@ mod tests {
                 Ok((write(0, 4), 2, 0)),
                 Err([7, 0, 0]),
             ],
+            stepped: &[4, 0],
             run: 0,
             cells: &[4, 0],
         };
@@ -309,12 +314,14 @@ mod tests {
         cells: &mut [u16],
         turns: &[usize],
         steps: &[usize],
-    ) -> Result<Session<K>, Fail> {
+    ) -> Result<Session<K, Exact>, Fail> {
         let mut store = [0; 66];
+        let asked = sizes(2, 2, 33);
+        let space = SessionBuffers::reserve(heap, asked, turns.len(), steps.len())?;
         let session = record_and_replay(
-            heap,
+            space,
             Exact::new(),
-            sizes(2, 2, 33),
+            asked,
             text,
             cores,
             cells,
@@ -351,6 +358,7 @@ mod tests {
                 Ok((write(0, 7), 2, 0)),
                 Ok((read(0), 2, 7)),
             ],
+            stepped: &[7, 8],
             run: 1,
             cells: &[7, 9],
         };
@@ -405,6 +413,7 @@ mod tests {
                 Ok((exchange(0, 5), 2, 9)),
                 Ok((exchange(0, 262), 2, 5)),
             ],
+            stepped: &[262, 0],
             run: 1,
             cells: &[262, 5],
         };
@@ -425,8 +434,9 @@ mod tests {
         cells: &mut [u16],
         store: &mut [u8],
     ) -> Result<(), Fail> {
+        let space = SessionBuffers::reserve(heap, sizes(4, 256, 4096), 1, 1)?;
         let answer = record_and_replay(
-            heap,
+            space,
             KeepAll,
             asked,
             WORKED,
@@ -487,10 +497,12 @@ mod tests {
         let mut store = [0xee; 16385];
         sizes_out_of_range(&rt, heap, &mut cores, &mut cells, &mut store)?;
         short_buffers(&rt, heap, &mut cores, &mut cells, &mut store)?;
+        let asked = sizes(4, 256, 4096);
+        let space = SessionBuffers::reserve(heap, asked, 1, 0)?;
         let session = record_and_replay(
-            heap,
+            space,
             KeepAll,
-            sizes(4, 256, 4096),
+            asked,
             WORKED,
             &mut cores,
             &mut cells,
@@ -503,6 +515,68 @@ mod tests {
         assert_eq!(rt; [session.cells.len(), session.cores.len()], [256, 4]);
         assert_eq!(rt; [cells[0], cells[1], cells[256]], [7, 5, 5]);
         assert!(rt; store[16383..].starts_with(b"\xee\xee"));
+        Ok(())
+    }
+    // Space for fewer turns, steps, cells or cores than the session has; what was handed in comes back, and serves a smaller one.
+    #[test]
+    fn too_little_space(rt: HostRuntime) -> Result<(), Fail> {
+        let heap = rt.alloc();
+        let mut cores = worked_cores();
+        let mut cells = [0; 2];
+        let mut store = [0xee; 99];
+        let asked = sizes(3, 2, 33);
+        let rows = [
+            (asked, 0, 1),
+            (asked, 1, 0),
+            (sizes(2, 2, 33), 1, 1),
+            (sizes(3, 1, 33), 1, 1),
+        ];
+        for (reserved, turns, steps) in rows {
+            let space = SessionBuffers::reserve(heap, reserved, turns, steps)?;
+            let answer = record_and_replay(
+                space,
+                Exact::new(),
+                asked,
+                WORKED,
+                &mut cores,
+                &mut cells,
+                &mut store,
+                &[0],
+                &[0],
+            );
+            assert_eq!(rt; answer.map_err(error_code).err(), Some(8));
+            assert!(rt; store.iter().all(|byte| *byte == 0xee));
+        }
+        let space = SessionBuffers::reserve(heap, asked, 1, 0)?;
+        let given_back = match record_and_replay(
+            space,
+            KeepAll,
+            asked,
+            WORKED,
+            &mut cores,
+            &mut cells,
+            &mut store,
+            &[0],
+            &[0],
+        ) {
+            Ok(_) => return Err(Fail::new("too little space serves")),
+            Err(e) => e,
+        };
+        let session = record_and_replay(
+            given_back.buffers,
+            given_back.reducer,
+            asked,
+            WORKED,
+            &mut cores,
+            &mut cells,
+            &mut store,
+            &[0],
+            &[],
+        )
+        .map_err(error_code)?;
+        assert_eq!(rt; finished(session.ended), Some(1));
+        assert!(rt; session.stepped_cells.as_slice() == [0, 0].as_slice());
+        assert!(rt; session.cells.as_slice() == [7, 0].as_slice());
         Ok(())
     }
 }

@@ -1,5 +1,6 @@
 -- Each way out of a step is what the step comes to.
-use Rattle.std.proofs.Common.{◌≡◌, ◌+◌, map, drop, Ok, Err, sym, ap, ◌∙◌, arith, rules}
+use Rattle.std.proofs.Common.{◌≡◌, ◌+◌, ◌<◌, map, length, drop, set, Ok, Err, sym, ap, ◌∙◌, arith, rules}
+use Rattle.cores.proofs.OneCore.{here, tells, others_kept}
 use Rattle.cores.proofs.Surplus.{stored_surplus, drop_further}
 use Rattle.replayer.specs.Answers.{step_refusal, step_numbers}
 use Rattle.replayer.specs.Steps.{refused}
@@ -18,23 +19,33 @@ pub returns-in_err-count-clause-outcome : goal.returns-in_err-count-clause-outco
 returns-in_err-count-clause-outcome g c =
     let a = c.args in
     let e = c.in_err-count.field-0.0 in
+    let may = c.in_ok-group.ensures.1 in
+    let inside : a.j < length a.cores.now = omega (arith, may.known, may.enough) in
+    let at = here g.K.Core.state a.text.now a.cores.now a.j inside c.index-cores-j.result c.index-cores-j.is in
     let is : c.from_residual-in_err-count.result ≡ Err e = search rules in
     ap (λ r. record { says = step_numbers r; replayer = c.go_on.new.self; cells = a.cells.now; states = map g.K.Core.state a.cores.now }) is
-    ∙ stays _ _ _ _ _ _ _ _ _ c.in_ok-group.group c.in_ok-group.ensures.0 c.in_ok-group.ensures.1
-    c.in_ok-request.request (sym c.in_ok-request.ensures.ok_part ∙ c.request_of.ensures) e c.go_on.new.self c.in_err-count.ensures
+    ∙ stays _ _ _ _ _ _ _ _ _ c.in_ok-group.group c.in_ok-group.ensures.0 may
+    c.ask-request.result (c.ask-request.ensures ∙ ap (g.K.Core.next a.text.now) (sym at)) e c.go_on.new.self c.in_err-count.ensures
 
 pub returns-clause-outcome : goal.returns-clause-outcome
 returns-clause-outcome g c =
     let a = c.args in
     let went = c.in_ok-count.ensures in
-    (λ i. record { says = step_numbers (Ok (record { request = c.in_ok-request.request; count = went.3 i; number = c.act-number.result })); replayer = went.4 i; cells = c.act-number.new.cells; states = map g.K.Core.state c.tell_core.new.cores })
-    ∙ done _ _ _ _ _ _ _ _ _ c.in_ok-group.group c.in_ok-group.ensures.0 c.in_ok-group.ensures.1 went.0
-    c.in_ok-request.request (sym c.in_ok-request.ensures.ok_part ∙ c.request_of.ensures) went.1 went.2
-    _ c.act-number.ensures.brings _ c.act-number.ensures.stores _ c.tell_core.ensures.states
+    let may = c.in_ok-group.ensures.1 in
+    let inside : a.j < length a.cores.now = omega (arith, may.known, may.enough) in
+    let at = here g.K.Core.state a.text.now a.cores.now a.j inside c.index-cores-j.result c.index-cores-j.is in
+    (λ i. record { says = step_numbers (Ok (record { request = c.ask-request.result; count = went.3 i; number = c.act-number.result })); replayer = went.4 i; cells = c.act-number.new.cells; states = map g.K.Core.state (set a.cores.now a.j c.tell.new.self) })
+    ∙ done _ _ _ _ _ _ _ _ _ c.in_ok-group.group c.in_ok-group.ensures.0 may went.0
+    c.ask-request.result (c.ask-request.ensures ∙ ap (g.K.Core.next a.text.now) (sym at)) went.1 went.2
+    _ c.act-number.ensures.brings _ c.act-number.ensures.stores _
+    (tells g.K.Core.state a.text.now a.cores.now a.j g.K.Core.after c.act-number.result inside c.index-cores-j.result c.index-cores-j.is c.tell.new.self c.tell.ensures)
+
+pub returns-clause-others : goal.returns-clause-others
+returns-clause-others g c = others_kept c.args.cores.now c.args.j c.tell.new.self
 
 pub returns-clause-surplus : goal.returns-clause-surplus
 returns-clause-surplus g c =
     let a = c.args in (
-      drop_further (a.j + 1) a.self.now.sizes.cores c.tell_core.new.cores a.cores.now (omega (arith, c.in_ok-group.ensures.1.known)) c.tell_core.ensures.others.1,
-      ap (drop a.self.now.sizes.cells) c.act-number.ensures.stores ∙ stored_surplus c.in_ok-request.request a.self.now.sizes.cells a.cells.now (sym c.in_ok-count.ensures.2),
+      drop_further (a.j + 1) a.self.now.sizes.cores (set a.cores.now a.j c.tell.new.self) a.cores.now (omega (arith, c.in_ok-group.ensures.1.known)) (others_kept a.cores.now a.j c.tell.new.self).1,
+      ap (drop a.self.now.sizes.cells) c.act-number.ensures.stores ∙ stored_surplus c.ask-request.result a.self.now.sizes.cells a.cells.now (sym c.in_ok-count.ensures.2),
     )
