@@ -3,6 +3,7 @@ ghost use Rattle.reducers.specs.declared.interface.AccessKind.TheVariants.{Write
 ghost use Rattle.accesses.specs.Histories.{untouched, remembered, remembering, from_core, candidates_of, candidates_at, other as other_than, position_of, latest_first};
 
 use crate::access::{Access, Candidate};
+use records::format::Source;
 use reducers::interface::AccessKind;
 
 // The last write of a cell, and each core's latest read since.
@@ -39,12 +40,23 @@ impl CellHistory {
         if i >= cores {
             return None;
         }
-        let read = self.reads.get(i).copied().flatten();
-        let write = self
-            .last_write
-            .filter(|access| usize::from(access.core) == i);
-        read.map(|access| access.candidate(AccessKind::Read))
-            .or(write.map(|access| access.candidate(AccessKind::Write)))
+        if let Some(Some(read)) = self.reads.get(i) {
+            return Some(read.candidate(AccessKind::Read));
+        }
+        match self.last_write {
+            Some(
+                Access {
+                    core,
+                    count,
+                    position,
+                },
+            ) if usize::from(core) == i => Some(Candidate {
+                source: Source { core, count },
+                kind: AccessKind::Write,
+                position,
+            }),
+            _ => None,
+        }
     }
 
     // What each other core did last to the cell: latest position first, then none.
@@ -61,14 +73,21 @@ impl CellHistory {
     {
         match kind {
             AccessKind::Read => {
-                let write = self.last_write.filter(|access| {
-                    usize::from(access.core) != j && usize::from(access.core) < cores
-                });
-                [
-                    write.map(|access| access.candidate(AccessKind::Write)),
-                    None,
-                    None,
-                ]
+                let write = match self.last_write {
+                    Some(
+                        Access {
+                            core,
+                            count,
+                            position,
+                        },
+                    ) if usize::from(core) != j && usize::from(core) < cores => Some(Candidate {
+                        source: Source { core, count },
+                        kind: AccessKind::Write,
+                        position,
+                    }),
+                    _ => None,
+                };
+                [write, None, None]
             }
             AccessKind::Write => self.of_others(cores, j),
         }

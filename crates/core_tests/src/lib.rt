@@ -3,24 +3,25 @@
 
 #[cfg(test)]
 mod tests {
-    use cores::acting::{act, cell_exists, request_of, tell_core};
+    use cores::acting::{act, cell_exists};
     use cores::interface::{Core, Request, StartingCore};
     use cores::register::RegisterCore;
     use cores::script::ScriptCore;
 
     // One instruction of core `j`; whether it was carried out.
     fn carry_out<K: Core>(text: &[u8], cores: &mut [K], cells: &mut [u16], j: usize) -> bool {
-        match request_of(text, cores, j) {
-            None | Some(Request::Halt) => false,
-            Some(request) => {
-                if !cell_exists(request, cells.len()) {
-                    return false;
-                }
-                let number = act(request, cells);
-                tell_core(text, cores, j, number);
-                true
-            }
+        if j >= cores.len() {
+            return false;
         }
+        let mut core = cores[j];
+        let request = core.ask(text);
+        if request == Request::Halt || !cell_exists(request, cells.len()) {
+            return false;
+        }
+        let number = act(request, cells);
+        core.tell(text, number);
+        cores[j] = core;
+        true
     }
 
     // How many instructions core 0 carries out until it halts, at most 100.
@@ -87,17 +88,9 @@ mod tests {
         assert!(rt; !carry_out(&text, &mut cores, &mut cells, 2), "no cell 9");
         assert!(rt; !carry_out(&text, &mut cores, &mut cells, 3), "no core 3");
         assert!(rt;
-            matches!(
-                request_of(&text, &[ScriptCore::new(9)], 0),
-                Some(Request::Halt)
-            ),
+            ScriptCore::new(9).ask(&text) == Request::Halt,
             "three bytes are no item"
         );
-        assert!(rt;
-            matches!(
-                request_of(&text, &[ScriptCore::new(65535)], 0),
-                Some(Request::Halt)
-            )
-        );
+        assert!(rt; ScriptCore::new(65535).ask(&text) == Request::Halt);
     }
 }
