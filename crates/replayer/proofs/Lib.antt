@@ -2,6 +2,7 @@ pub mod Readings
 pub mod Steps
 pub mod Ways
 pub mod Runs
+mod Stopping
 pub mod Standing
 pub mod Following
 pub mod Memories

@@ -1,7 +1,9 @@
 -- What a run comes to: circles of steps.
-use Rattle.std.specs.Prelude.{ℕ, zero, suc, ◌+◌, ◌-◌, cond, List, [], ◌∷◌, length, ◌==◌, slice_index, slice_index_or}
+use Rattle.std.specs.Prelude.{◌≡◌, ℕ, zero, suc, ◌+◌, ◌-◌, ◌<◌, true, cond, ◌↔◌, List, [], ◌∷◌, length, Ok, Err, Result, ◌==◌, slice_index, slice_index_or}
 use Rattle.cores.specs.declared.interface.Request.{Request}
 use Rattle.records.specs.Faults.{bad_setting}
+use Rattle.records.specs.declared.faults.Refusal.{Refusal}
+use Rattle.replayer.specs.declared.answers.Ended.{Ended}
 use Rattle.replayer.specs.declared.replay.Replayer.{Replayer}
 use Rattle.records.specs.Settings.{settled}
 use Rattle.replayer.specs.Steps.{Outcome, stepped}
@@ -67,3 +69,17 @@ module _ (next : List ℕ → List ℕ → Request) (after : List ℕ → List �
       cond (settled R.sizes (length states) (length cells) (length store))
       (rounds (suc (left R)) (session 0 R cells states))
       (record { says = bad_setting; replayer = R; cells = cells; states = states })
+
+-- a refused run changes no core
+abbrev pub RunKept : {K : Type 0} → Result Ended Refusal → List K → List K → Type 0
+RunKept (Ok _) before later = Unit {0}
+RunKept (Err _) before later = later ≡ before
+
+-- a run that is not refused answers stopped exactly if, where it ends, something is left and no core's step is carried out; and finished exactly if nothing is left
+abbrev pub RunsStopExactly : Type 0
+RunsStopExactly =
+    (next : List ℕ → List ℕ → Request) (after : List ℕ → List ℕ → ℕ → List ℕ) (text store : List ℕ) (R : Replayer) (cells : List ℕ) (states : List (List ℕ)) → length R.done ≡ 4 →
+    settled R.sizes (length states) (length cells) (length store) ≡ true →
+    let o : Outcome = ran next after text store R cells states in
+    ((slice_index o.says 0 ≡ 1) ↔ ((0 < left o.replayer) × ((j : ℕ) → counted (stepped next after text o.replayer o.cells o.states store j).says ≡ 0)))
+    × ((slice_index o.says 0 ≡ 0) ↔ (left o.replayer ≡ 0))

@@ -1,4 +1,5 @@
 ghost use Rattle.replayer.specs.Following.{OpeningFollows, StepReads, StepWaits, StepsFollow, RunsFollow};
+ghost use Rattle.replayer.specs.Runs.{RunsStopExactly};
 ghost use Rattle.replayer.specs.Memories.{StepsAlike, StepsPlay, RunsPlay};
 
 // Holds the theorems that a replay follows its logs: from an accepted opening on, a step reads exactly the arcs
@@ -9,6 +10,11 @@ pub fn replays_follow_their_logs()
     ensures waits { StepWaits }
     ensures steps { StepsFollow }
     ensures runs { RunsFollow }
+{}
+
+// Holds the law that a run stops exactly if, where it ends, something is left and no core's step is carried out.
+pub fn runs_stop_where_nothing_goes()
+    ensures { RunsStopExactly }
 {}
 
 // Holds the theorems that replaying is running: a step is an accepted turn of the plain memory or leaves it as it was,

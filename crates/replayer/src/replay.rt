@@ -4,7 +4,7 @@ ghost use Rattle.logs.specs.Session.{no_counts, done_as};
 ghost use Rattle.records.specs.Settings.{no_sizes, SurplusKept};
 ghost use Rattle.replayer.specs.Answers.{step_numbers, run_numbers};
 ghost use Rattle.replayer.specs.Steps.{started, reopened, Bars, Grouped, WentOn, stepped, StepKept};
-ghost use Rattle.replayer.specs.Runs.{left, session, circled, ran};
+ghost use Rattle.replayer.specs.Runs.{left, session, circled, ran, RunKept};
 
 use crate::answers::{Done, Ended, StepRefusal};
 use crate::group::{Group, read_group};
@@ -203,6 +203,7 @@ impl Replayer {
     ) -> Result<Ended, Refusal>
         ensures outcome { record { says = run_numbers result; replayer = self.new; cells = cells.new; states = map K.Core.state cores.new } ≡ ran K.Core.next K.Core.after text.now store.now self.old cells.old (map K.Core.state cores.old) }
         ensures surplus { SurplusKept self.old.sizes cores.old cores.new cells.old cells.new }
+        ensures refused { RunKept result cores.old cores.new }
     {
         if !buffers_hold(self.sizes, cores.len(), cells.len(), store.len()) {
             return Err(Refusal::BadSetting);
