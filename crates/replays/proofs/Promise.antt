@@ -133,6 +133,7 @@ no_dropped_ordering_was_needed meets bounded next after text w v es t new =
       accepted = rec.tracks.accepted;
       recording = rec.tracks.recording;
       logged = arcs_logged meets (run_of K (start s.cells s.states) s.turns) v.tape.numbers rec.arcs rec.tracks.recording;
+      decided = λ R one. one (run_of K (start s.cells s.states) s.turns) v.tape.numbers rec.arcs rec.tracks.recording;
       cells = rec.tracks.cells;
       states = rec.tracks.states;
       logs = logs_hold meets bounded next after text v r s f o rec;

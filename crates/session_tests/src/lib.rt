@@ -178,15 +178,7 @@ mod tests {
         let asked = sizes(3, 2, log_bytes);
         let space = SessionBuffers::reserve(heap, asked, turns.len(), steps.len())?;
         let session = record_and_replay(
-            space,
-            reducer,
-            asked,
-            WORKED,
-            &mut cores,
-            &mut cells,
-            &mut store,
-            turns,
-            steps,
+            space, reducer, asked, WORKED, &mut cores, &mut cells, &mut store, turns, steps,
         )
         .map_err(error_code)?;
         Ok((session, cells))

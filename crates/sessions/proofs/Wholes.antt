@@ -205,7 +205,7 @@ module _ (meets : Meets) (bounded : Bounded meets) (next : List ℕ → List ℕ
           accepted = u;
           arcs = L;
           rules = by_rules;
-          unrefused_ones = feed.0;
+          not_refused = feed.0;
           fed_answers = feed.1;
           cells = parts z.cells v.cells last.cells _ account.tracks.cells beyond_cells;
           states = parts z.cores v.states last.states _ account.tracks.states beyond_states;

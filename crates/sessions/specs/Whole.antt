@@ -72,7 +72,7 @@ pub record TurnsRecorded (meets : Meets) (K : Rules) (z : Sizes) (m : Memory) (t
   pub arcs : List Arc
   pub rules : ByTheRules meets K z m (reverse turns) (reverse says) accepted numbers arcs
   -- accepted are the turns that did not answer a refusal: the plain memory is the one fed each turn's core and whether its answer was a refusal
-  pub unrefused_ones : accepted ≡ unrefused (with_refusals (reverse turns) (reverse says))
+  pub not_refused : accepted ≡ unrefused (with_refusals (reverse turns) (reverse says))
   pub fed_answers : plain K m accepted ≡ fed K m (with_refusals (reverse turns) (reverse says))
   -- cells and states are the plain memory's, each log has exactly the arcs to its core in their order, and nothing else changed
   pub cells : later.cells ≡ (plain K m accepted).cells ++ drop z.cells before.cells

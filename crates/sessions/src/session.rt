@@ -73,7 +73,14 @@ impl<K: Core> Room<K> {
     }
 
     // Opens the logs with the copies, takes the steps in order, copies what they left, and runs to the end.
-    fn replay<R>(mut self, reducer: R, sizes: Sizes, text: &[u8], store: &[u8], steps: &[usize]) -> Session<K, R>
+    fn replay<R>(
+        mut self,
+        reducer: R,
+        sizes: Sizes,
+        text: &[u8],
+        store: &[u8],
+        steps: &[usize],
+    ) -> Session<K, R>
         requires answers { (self.steps.items ≡ []) × (length steps.now ≤ vec_capacity self.steps) }
         requires cells { (vec_len self.stepped_cells ≡ 0) × (vec_len self.cells ≤ vec_capacity self.stepped_cells) }
         requires cores { (vec_len self.stepped_cores ≡ 0) × (vec_len self.cores ≤ vec_capacity self.stepped_cores) }

@@ -24,7 +24,10 @@ returns-then-not-can_begin-clause-outcome g c =
         | then-not-can_begin-via-then-not-can_begin w ↦ same ∙ ap (λ b. b && enough) (sym w.if-not-can_begin.ensures)
         | then-not-can_begin-via-else-not-can_begin+then-not-suffices w ↦ neither _ enough (sym w.if-not-suffices.ensures)
       ],
-      refl, refl, refl, refl,
+      refl,
+      refl,
+      refl,
+      refl,
     )
 
 pub unwrap-requires : goal.unwrap-requires
