@@ -11,12 +11,13 @@ use Rattle.recordings.specs.ByTheRules.{ByTheRules}
 use Rattle.recordings.specs.Tracks.{logs_of, body_of}
 use Rattle.records.specs.Settings.{fits}
 use Rattle.records.specs.declared.settings.Sizes.{Sizes}
-use Rattle.reducers.specs.Numbers.{Meets}
+use Rattle.reducers.specs.Numbers.{Numbers, Meets}
 use Rattle.replays.specs.Replies.{carried_out}
 use Rattle.sessions.specs.Whole.{Buffers, Answers, TurnsRecorded, Whole, first_memory}
 use Rattle.recordings.proofs.Decided.{rules_decide}
-use Rattle.recordings.specs.Decided.{Decides, arcs_by}
-use Rattle.runs.specs.Reducers.{Reducer}
+use Rattle.recordings.specs.Decided.{arcs_by}
+use Rattle.reducers.specs.Decided.{Decides}
+use Rattle.runs.specs.Reducers.{Reducer, by_choice}
 use Rattle.bench_input.proofs.Finding.{described_so, so_described}
 use Rattle.bench_input.specs.Described.{described}
 use Rattle.bench_input.specs.Session.{Session}
@@ -61,17 +62,18 @@ module _ (meets : Meets) (K : Rules) (z : Sizes) (turns : List ℕ) (before late
       }
 
 -- a reducer with one choice tells one text
-told_decided : (meets : Meets) (R : Reducer) → Decides meets R → (K : Rules) (z : Sizes) (m : Memory) (turns text : List ℕ) → Told meets K z m turns text →
-    text ≡ text_of (decided_lines R K z m turns)
-told_decided meets R d K z m turns text t =
-    let e = rules_decide meets R d K z m (reverse turns) t.says t.accepted t.numbers t.arcs t.recorded in
+told_decided : (meets : Meets) (F : Numbers → Numbers) → Decides meets F → (K : Rules) (z : Sizes) (m : Memory) (turns text : List ℕ) → Told meets K z m turns text →
+    text ≡ text_of (decided_lines (by_choice F) K z m turns)
+told_decided meets F d K z m turns text t =
+    let R = by_choice F in
+    let e = rules_decide meets F d K z m (reverse turns) t.says t.accepted t.numbers t.arcs t.recorded in
     t.lines ∙ ap (λ L. text_of (lines_of K z.cores m t.accepted L)) e.1 ∙ ap (λ u. text_of (lines_of K z.cores m u (arcs_by R K m u))) e.0
 
 -- so does the reducer that an input names
-pub told_reduced : (meets : Meets) (asked is : Reduction) → asked ≡ is → Decides meets (reducer_for is) → (K : Rules) (z : Sizes) (m : Memory) (turns text : List ℕ) → Told meets K z m turns text →
+pub told_reduced : (meets : Meets) (asked is : Reduction) → asked ≡ is → (F : Numbers → Numbers) → Decides meets F → by_choice F ≡ reducer_for is → (K : Rules) (z : Sizes) (m : Memory) (turns text : List ℕ) → Told meets K z m turns text →
     text ≡ text_of (decided_lines (reducer_for asked) K z m turns)
-told_reduced meets asked is q d K z m turns text t =
-    told_decided meets (reducer_for is) d K z m turns text t ∙ ap (λ r. text_of (decided_lines (reducer_for r) K z m turns)) (sym q)
+told_reduced meets asked is q F d same K z m turns text t =
+    told_decided meets F d K z m turns text t ∙ ap (λ (R : Reducer). text_of (decided_lines R K z m turns)) same ∙ ap (λ r. text_of (decided_lines (reducer_for r) K z m turns)) (sym q)
 
 -- as many cores as starting items
 pub as_many : {X : Type 0} (f : X → List ℕ) (g : ℕ → List ℕ) (row items : List X) (starts : List ℕ) → row ≡ items → map f items ≡ map g starts → length row ≡ length starts

@@ -3,7 +3,8 @@
 
 ghost use Rattle.std.specs.Prelude.{◌≡◌};
 ghost use Rattle.cores.specs.Memory.{rules};
-ghost use Rattle.recorder.specs.Decided.{Decides, turned_by, exactly, nothing};
+ghost use Rattle.recorder.specs.Decided.{turned_by};
+ghost use Rattle.reducers.specs.Decided.{Decides, exactly, nothing};
 ghost use Rattle.recorder.specs.Turns.{scene, answered, said, kept, unmoved};
 ghost use Rattle.records.specs.Settings.{SurplusKept};
 ghost use Rattle.reducers.specs.Numbers.{Numbers};

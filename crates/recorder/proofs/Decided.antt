@@ -6,7 +6,8 @@ use Rattle.accesses.specs.declared.history.CellHistory.{CellHistory}
 use Rattle.cores.specs.Memory.{Rules}
 use Rattle.reducers.specs.Calls.{Call, takes, notes, Does}
 use Rattle.reducers.specs.Numbers.{Numbers, Meets, core?, cell?, taken, noted}
-use Rattle.recorder.specs.Decided.{Decides, called_by, judged_by, trail_by, trail_for, noted_for, turned_by, OneOutcome}
+use Rattle.reducers.specs.Decided.{Decides}
+use Rattle.recorder.specs.Decided.{called_by, judged_by, trail_by, trail_for, noted_for, turned_by, OneOutcome}
 use Rattle.recorder.specs.Judged.{known?, take_of, Steps, Judged, none, then, last_of}
 use Rattle.recorder.specs.Refusals.{touched}
 use Rattle.recorder.specs.Turns.{candidates_for, Within, World, asks, refusal, turned}

@@ -3,22 +3,12 @@ use Rattle.std.specs.Prelude.{◌≡◌, ℕ, cond, ◌&&◌, List, [], ◌∷�
 use Rattle.accesses.specs.declared.access.Candidate.{Candidate}
 use Rattle.cores.specs.Memory.{Rules}
 use Rattle.reducers.specs.Calls.{Call, takes, notes}
-use Rattle.reducers.specs.Numbers.{Numbers, Meets, zeros, core?, cell?, taken, noted}
+use Rattle.reducers.specs.Decided.{Decides}
+use Rattle.reducers.specs.Numbers.{Numbers, Meets, core?, cell?, taken, noted}
 use Rattle.recorder.specs.Judged.{known?, take_of, last_of}
 use Rattle.recorder.specs.Refusals.{touched}
 use Rattle.recorder.specs.Turns.{candidates_for, World, asks, Answered, turned, Turned}
 use Rattle.recorder.specs.declared.rules.Touch.{Touch}
-
--- whatever meets a bound is what F makes of it
-abbrev pub Decides : Meets → (Numbers → Numbers) → Type 0
-Decides meets F = (n b : Numbers) → meets n b → n ≡ F b
-
--- what two reducers make of a bound: exact the bound itself, keep-all 0; pairwise makes `known_only` of it
-abbrev pub exactly : Numbers → Numbers
-exactly b = b
-
-abbrev pub nothing : Numbers → Numbers
-nothing b = zeros
 
 module _ (F : Numbers → Numbers) where
   -- the numbers after a call

@@ -15,7 +15,7 @@ use Rattle.replayer.specs.Runs.{Session, session, one}
 use Rattle.replayer.specs.Steps.{found, reopened}
 use Rattle.replayer.specs.declared.replay.Replayer.{Replayer}
 use Rattle.runs.specs.Recording.{Arc}
-use Rattle.runs.specs.Replay.{Progress, goes, step, replay, replayed, Replays, StandsBehind, done_of, ReplayState}
+use Rattle.runs.specs.Replay.{Progress, goes, replay, replayed, Replays, StandsBehind, done_of, ReplayState}
 use Rattle.replays.specs.Matches.{Matches, step_says}
 use Rattle.replays.specs.Promise.{StepsAgree, onto}
 use Rattle.replays.specs.Calls.{Stage, stage, Continues, none, steps, runs, not_opened}

@@ -40,6 +40,7 @@ use Rattle.replays.specs.Replies.{reply, replies, dones}
 use Rattle.replays.proofs.Agreeing.{steps_agree, calls_agree}
 use Rattle.replays.proofs.Replying.{replied, dones_are, never_stuck}
 use Rattle.replayer.specs.Memories.{walked}
+use Rattle.runs.proofs.Decided.{choice_is_recorded}
 use Rattle.runs.proofs.LoggedArcs.{arcs_logged}
 use Rattle.runs.specs.Replay.{ReplayState}
 use Rattle.recordings.specs.Tracks.{run_of}
@@ -133,7 +134,7 @@ no_dropped_ordering_was_needed meets bounded next after text w v es t new =
       accepted = rec.tracks.accepted;
       recording = rec.tracks.recording;
       logged = arcs_logged meets (run_of K (start s.cells s.states) s.turns) v.tape.numbers rec.arcs rec.tracks.recording;
-      decided = λ R one. one (run_of K (start s.cells s.states) s.turns) v.tape.numbers rec.arcs rec.tracks.recording;
+      decided = λ F one. (choice_is_recorded meets F one (run_of K (start s.cells s.states) s.turns) v.tape.numbers rec.arcs rec.tracks.recording).1;
       cells = rec.tracks.cells;
       states = rec.tracks.states;
       logs = logs_hold meets bounded next after text v r s f o rec;

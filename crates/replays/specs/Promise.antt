@@ -9,17 +9,18 @@ use Rattle.records.specs.Settings.{no_sizes, settled, log_of, heading_of}
 use Rattle.records.specs.declared.settings.Sizes.{Sizes}
 use Rattle.recorder.specs.Turns.{World, Answered, Turned, fresh_tape, ready}
 use Rattle.recordings.specs.ByTheRules.{TurnGoes}
-use Rattle.recordings.specs.Decided.{arcs_by, Decides}
+use Rattle.recordings.specs.Decided.{arcs_by}
 use Rattle.recordings.specs.Sessions as recorded
 use Rattle.recordings.specs.Tracks.{run_of, body_of}
-use Rattle.reducers.specs.Numbers.{Meets}
+use Rattle.reducers.specs.Decided.{Decides}
+use Rattle.reducers.specs.Numbers.{Numbers, Meets}
 use Rattle.replayer.specs.Memories.{memory_of, walked}
 use Rattle.replayer.specs.Runs.{Session, session, ran}
 use Rattle.replayer.specs.Steps.{Outcome, stepped, reopened}
 use Rattle.replayer.specs.declared.replay.Replayer.{Replayer}
 use Rattle.runs.specs.Logged.{ArcsLogged}
 use Rattle.runs.specs.Recording.{Arc, Recording}
-use Rattle.runs.specs.Reducers.{Reducer}
+use Rattle.runs.specs.Reducers.{by_choice}
 use Rattle.runs.specs.Replay.{Progress, replayed, Agrees, ReplayState}
 use Rattle.traces.specs.Recording.{opened, recording_after}
 use Rattle.traces.specs.Trace.{Event, Trace}
@@ -108,7 +109,7 @@ pub record RecordedAndReplayed (meets : Meets) (next : List ℕ → List ℕ →
   -- which arcs these are, by how the reducer meets its bounds, and how each log orders them
   pub logged : ArcsLogged meets (run_of (rules next after text) (start s.cells s.states) s.turns) arcs
   -- and where its bounds leave one choice, these are the arcs that the definition says
-  pub decided : (R : Reducer) → Decides meets R → arcs ≡ arcs_by R (rules next after text) (start s.cells s.states) s.turns
+  pub decided : (F : Numbers → Numbers) → Decides meets F → arcs ≡ arcs_by (by_choice F) (rules next after text) (start s.cells s.states) s.turns
   -- cells, states and counts are the plain memory's, and the logs hold exactly those arcs
   pub cells : take v.tape.book.sizes.cells v.cells ≡ (plain (rules next after text) (start s.cells s.states) s.turns).cells
   pub states : take v.tape.book.sizes.cores v.states ≡ (plain (rules next after text) (start s.cells s.states) s.turns).states

@@ -2,17 +2,18 @@
 use Rattle.std.proofs.Common.{◌≡◌, leb, List, ◌∷◌, sym, refl, ap, ◌∙◌}
 use Rattle.std.proofs.lemmas.Bool.{cond-true, cond-false, le-leb, lt-leb}
 use Rattle.reducers.specs.declared.interface.AccessKind.TheVariants.{Read, Write}
-use Rattle.reducers.specs.Numbers.{Numbers, Meets, zeros, taken, noted}
+use Rattle.reducers.specs.Decided.{Decides}
+use Rattle.reducers.specs.Numbers.{Numbers, Meets, zeros, noted}
 use Rattle.reducers.specs.Rows.{known_only, KnownOnly}
 use Rattle.runs.specs.Candidates.{Candidate, candidates}
 use Rattle.runs.specs.Recording.{Arc, arc, Judged, none_left, answers_yes, answers_no, Noted, Recording, begin, turn}
-use Rattle.runs.specs.Reducers.{Reducer, judge, after_note, recorded}
+use Rattle.runs.specs.Reducers.{Reducer, by_choice, judge, after_note, recorded}
 use Rattle.runs.specs.Runs.{local, read, write, Event, ev, Run, Instr, core_of, next}
 use Rattle.runs.specs.Theorems.{ThreeReducersAreDecided}
 
-module _ (meets : Meets) (F : Numbers → Numbers) (decides : (n b : Numbers) → meets n b → n ≡ F b) where
+module _ (meets : Meets) (F : Numbers → Numbers) (decides : Decides meets F) where
   abbrev by : Reducer
-  by = record { take = λ n i a c w j. F (taken n i a c w j); note = λ n j c w. F (noted n j c w) }
+  by = by_choice F
 
   judged_is : {e : Event} {y : Instr} {l : List Candidate} {N N' : Numbers} {L L' : List Arc} → Judged meets e y l N L N' L' → judge by e y l N L ≡ record { numbers = N'; arcs = L' }
   judged_is none_left = refl
@@ -36,7 +37,14 @@ module _ (meets : Meets) (F : Numbers → Numbers) (decides : (n b : Numbers) �
       ap (λ u. after_note by e u.numbers) t ∙ sym (noted_is e N₁ N₂ note) in
       λ i. record { numbers = s i; arcs = (t i).arcs }
 
-only_known : (n b : Numbers) → KnownOnly n b → n ≡ known_only b
+-- numbers and arcs of a recording, where the bounds leave one choice
+pub choice_is_recorded : (meets : Meets) (F : Numbers → Numbers) → Decides meets F → (r : Run) (N : Numbers) (L : List Arc) → Recording meets r N L →
+    (N ≡ (recorded (by_choice F) r).numbers) × (L ≡ (recorded (by_choice F) r).arcs)
+choice_is_recorded meets F decides r N L rec =
+    let q = sym (recorded_is meets F decides rec) in
+    (ap (λ s. s.numbers) q, ap (λ s. s.arcs) q)
+
+pub only_known : Decides KnownOnly known_only
 only_known n b k = λ i. record {
   known = λ j c. k.known_same j c i;
   written = λ c j. k.no_written c j i;

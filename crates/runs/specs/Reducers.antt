@@ -40,6 +40,10 @@ recorded R (e ∷ h) =
     let t : Recorded = judge R e (next h e) (candidates h e) s.numbers s.arcs in
     record { numbers = after_note R e t.numbers; arcs = t.arcs }
 
+-- a reducer that makes F of each bound
+abbrev pub by_choice : (Numbers → Numbers) → Reducer
+by_choice F = record { take = λ n i a c w j. F (taken n i a c w j); note = λ n j c w. F (noted n j c w) }
+
 abbrev pub exact : Reducer
 exact = record { take = taken; note = noted }
 

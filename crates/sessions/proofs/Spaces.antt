@@ -1,5 +1,5 @@
 -- What suffices has room for each part, what has no length is empty, and what begin does not refuse is done.
-use Rattle.std.proofs.Common.{◌≡◌, ℕ, ◌≤◌, Bool, true, false, ◌&&◌, leb, List, [], ◌∷◌, length, Ok, Err, Result, IsOk, vec_capacity, refl, ap, arith}
+use Rattle.std.proofs.Common.{◌≡◌, ℕ, ◌≤◌, Bool, true, false, ◌&&◌, leb, List, [], ◌∷◌, length, Ok, Err, Result, IsOk, vec_capacity, refl, arith}
 use Rattle.std.proofs.lemmas.Bool.{and_parts, leb-true}
 use Rattle.records.specs.declared.settings.Sizes.{Sizes}
 use Rattle.recorder.proofs.Ways.{number_not_zero}

@@ -24,7 +24,7 @@ use Rattle.replayer.specs.Steps.{Outcome, started}
 use Rattle.replays.proofs.Promise.{replays_as_recorded, logs_hold}
 use Rattle.replays.specs.Promise.{NewRecorder, SameStart, ReplaysAsRecorded, LogsHold}
 use Rattle.replays.specs.Replies.{steps_said, dones, carried_out}
-use Rattle.reducers.specs.Numbers.{Numbers, Meets}
+use Rattle.reducers.specs.Numbers.{Meets}
 use Rattle.runs.proofs.LoggedArcs.{arcs_logged}
 use Rattle.runs.specs.Replay.{ReplayState}
 use Rattle.recordings.proofs.Decided.{rules_decide}

@@ -7,15 +7,16 @@ use Rattle.records.specs.declared.settings.Sizes.{Sizes}
 use Rattle.recorder.specs.Refusals.{number_of}
 use Rattle.recorder.specs.Turns.{said}
 use Rattle.recordings.specs.ByTheRules.{ByTheRules, with_refusals}
-use Rattle.recordings.specs.Decided.{arcs_by, accepted_by, said_by, Decides}
+use Rattle.recordings.specs.Decided.{arcs_by, accepted_by, said_by}
 use Rattle.recordings.specs.Tracks.{run_of}
+use Rattle.reducers.specs.Decided.{Decides}
 use Rattle.reducers.specs.Numbers.{Numbers, Meets}
 use Rattle.replayer.specs.Answers.{step_numbers, run_numbers}
 use Rattle.replays.specs.Promise.{LogsHold}
 use Rattle.replays.specs.Replies.{replies, dones, carried_out, NeverStuck}
 use Rattle.runs.specs.Logged.{ArcsLogged}
 use Rattle.runs.specs.Recording.{Arc}
-use Rattle.runs.specs.Reducers.{Reducer}
+use Rattle.runs.specs.Reducers.{by_choice, recorded}
 use Rattle.runs.specs.Replay.{ReplayState}
 use Rattle.sessions.specs.Space.{suffices}
 use Rattle.sessions.specs.declared.buffers.SessionBuffers.{SessionBuffers}
@@ -80,11 +81,13 @@ pub record TurnsRecorded (meets : Meets) (K : Rules) (z : Sizes) (m : Memory) (t
   pub logs : LogsHold z before.store later.store (plain K m accepted).counts arcs
   pub surplus : drop (z.cores * z.log_bytes) later.store ≡ drop (z.cores * z.log_bytes) before.store
 
--- where the reducer's bounds leave one choice, what was accepted, logged and answered is what the definition says
-abbrev pub AsDecided : Meets → Rules → Sizes → Memory → List ℕ → List (List ℕ) → List ℕ → List Arc → Type 0
-AsDecided meets K z m turns says accepted arcs =
-    (R : Reducer) → Decides meets R →
+-- where the reducer's bounds leave one choice, what was accepted, logged and answered, and the reducer's numbers, are what the definition says
+abbrev pub AsDecided : Meets → Rules → Sizes → Memory → List ℕ → List (List ℕ) → Numbers → List ℕ → List Arc → Type 0
+AsDecided meets K z m turns says numbers accepted arcs =
+    (F : Numbers → Numbers) → Decides meets F →
+    let R = by_choice F in
     (accepted ≡ accepted_by R K z m (reverse turns)) × (arcs ≡ arcs_by R K m accepted) × (reverse says ≡ said_by R K z m (reverse turns))
+    × (numbers ≡ (recorded R (run_of K m accepted)).numbers)
 
 -- the replay, from the plain memory m on, of the accepted turns and their arcs: opened, stepped, and run to its end
 pub record RecordingReplayed (K : Rules) (z : Sizes) (m : Memory) (accepted : List ℕ) (arcs : List Arc) (steps : List ℕ) (a : Answers) : Type 0 where
@@ -105,7 +108,7 @@ pub record RecordingReplayed (K : Rules) (z : Sizes) (m : Memory) (accepted : Li
 pub record Whole (meets : Meets) (K : Rules) (z : Sizes) (turns steps : List ℕ) (before later : Buffers) (a : Answers) : Type 0 where
   pub recorded : TurnsRecorded meets K z (first_memory z before) turns a.turns a.numbers before later
   pub logged : ArcsLogged meets (run_of K (first_memory z before) recorded.accepted) recorded.arcs
-  pub decided : AsDecided meets K z (first_memory z before) turns a.turns recorded.accepted recorded.arcs
+  pub decided : AsDecided meets K z (first_memory z before) turns a.turns a.numbers recorded.accepted recorded.arcs
   pub replayed : RecordingReplayed K z (first_memory z before) recorded.accepted recorded.arcs steps a
 
 -- every outcome: a whole session exactly if the sizes fit the buffers and the space suffices; else bad setting (8), with nothing changed and all handed back

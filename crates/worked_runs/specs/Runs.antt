@@ -4,7 +4,8 @@ use Rattle.cores.specs.Memory.{Rules, rules}
 use Rattle.cores.specs.Script.{script_next, script_after}
 use Rattle.logs.specs.Lawful.{whole}
 use Rattle.logs.specs.Session.{no_counts}
-use Rattle.recorder.specs.Decided.{turned_by, exactly, nothing}
+use Rattle.recorder.specs.Decided.{turned_by}
+use Rattle.reducers.specs.Decided.{exactly, nothing}
 use Rattle.recorder.specs.Refusals as book
 use Rattle.recorder.specs.Turns.{World, world, begun}
 use Rattle.records.specs.Format.{LogArc, arc, written}

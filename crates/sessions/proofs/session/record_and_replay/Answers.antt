@@ -1,5 +1,5 @@
 -- Where the buffers hold, begin refuses nothing, and the session is a whole one.
-use Rattle.std.proofs.Common.{◌≡◌, ◌≤◌, true, false, ◌&&◌, map, reverse, length, vec_items, vec_len, vec_capacity, sym, refl, ap, ◌∙◌, subst, arith}
+use Rattle.std.proofs.Common.{◌≡◌, ◌≤◌, ◌&&◌, map, reverse, length, vec_items, vec_len, vec_capacity, sym, refl, ap, ◌∙◌, subst, arith}
 use Rattle.std.proofs.lemmas.List.{length-map, length-take, take-map, drop-map}
 use Rattle.std.proofs.lemmas.Bool.{and_from}
 use Rattle.cores.specs.Memory.{rules}
