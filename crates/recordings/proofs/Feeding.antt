@@ -1,5 +1,5 @@
 -- By the rules a turn is accepted exactly if its answer is no refusal, so the answers say what the plain memory is fed.
-use Rattle.std.proofs.Common.{◌≡◌, ℕ, true, false, cond, not, List, [], ◌∷◌, eqb, ◌≢◌, sym, refl, ap, ◌∙◌}
+use Rattle.std.proofs.Common.{◌≡◌, ℕ, true, cond, not, List, ◌∷◌, eqb, sym, refl, ap, ◌∙◌}
 use Rattle.std.proofs.lemmas.Bool.{cond-true, ne_eqb}
 use Rattle.cores.proofs.LatestStore.{refused_turns_change_nothing}
 use Rattle.cores.specs.Memory.{Rules, Memory, plain, unrefused}

@@ -1,5 +1,5 @@
 -- Each way of a turn gives the outcome that is defined, and touches no other core.
-use Rattle.std.proofs.Common.{◌≡◌, ◌+◌, ◌<◌, drop, length, set, sym, ap, ◌∙◌, arith}
+use Rattle.std.proofs.Common.{◌+◌, ◌<◌, drop, length, set, sym, ap, ◌∙◌, arith}
 use Rattle.std.proofs.lemmas.Result.{err_from_is_err_and}
 use Rattle.cores.proofs.OneCore.{here, tells, others_kept}
 use Rattle.cores.proofs.Surplus.{stored_surplus, drop_further}
