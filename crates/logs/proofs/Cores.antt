@@ -1,5 +1,5 @@
 -- The loops over the cores of a session: what is still to be read gives what the whole session gives.
-use Rattle.std.proofs.Common.{◌≡◌, ℕ, suc, ◌+◌, ◌-◌, ◌<◌, ◌≤◌, Bool, true, false, cond, ◌&&◌, ltb, List, length, set, Ok, Err, Option, Result, sym, refl, ap, ◌∙◌, arith}
+use Rattle.std.proofs.Common.{◌≡◌, ℕ, suc, ◌+◌, ◌-◌, ◌<◌, ◌≤◌, Bool, true, false, cond, ◌&&◌, ltb, List, length, set, Ok, Err, Result, sym, refl, ap, ◌∙◌, arith}
 use Rattle.std.proofs.lemmas.Bool.{and_parts, ltb-true}
 use Rattle.records.specs.declared.reading.Reader.{Reader}
 use Rattle.records.specs.declared.reading.State.TheVariants.{Before}
@@ -7,8 +7,8 @@ use Rattle.records.specs.declared.settings.Sizes.{Sizes}
 use Rattle.records.specs.Faults.{Fault, bad_setting}
 use Rattle.records.specs.Reading.{View, view, reader_at, reader_as}
 use Rattle.records.specs.Settings.{fits, log_of, heading_of}
-use Rattle.logs.specs.Session.{read_log, hold_log, onward, gathered, tested}
-use Rattle.logs.specs.Walk.{reading_by, at_front}
+use Rattle.logs.specs.Session.{read_log, hold_log, onward, gathered, tested, largest_in, all_largest}
+use Rattle.logs.specs.Walk.{Reading, at_front}
 
 cond_front : (b : Bool) (v w : View) (refused : List ℕ) → Ok v ≡ cond b (Ok w) (Err refused) → v ≡ w
 cond_front true v w refused q = cc
@@ -28,9 +28,9 @@ reader_inside store z j r q =
     ltb-true j z.cores (and_parts (fits (length store) z) (ltb j z.cores) (cond_true (fits (length store) z && ltb j z.cores) (view r) (Ok (at_front (heading_of z j) (log_of store z j))) bad_setting q)).1
 
 -- what is read through a new reader is its core's log
-pub read_here : (store : List ℕ) (z : Sizes) (j : ℕ) (r : Reader) → reader_as (Ok r) ≡ reader_at store z j 0 Before → (held : Option (List ℕ)) (x : Result ℕ Fault) → x ≡ (reading_by held (view r)).verdict →
-    (reading_by held (at_front (heading_of z j) (log_of store z j))).verdict ≡ x
-read_here store z j r new held x q = sym (q ∙ ap (λ v. (reading_by held v).verdict) (new_reader store z j r new))
+pub read_here : (store : List ℕ) (z : Sizes) (j : ℕ) (r : Reader) → reader_as (Ok r) ≡ reader_at store z j 0 Before → (from : View → Reading) (x : Result ℕ Fault) → x ≡ (from (view r)).verdict →
+    (from (at_front (heading_of z j) (log_of store z j))).verdict ≡ x
+read_here store z j r new from x q = sym (q ∙ ap (λ v. (from v).verdict) (new_reader store z j r new))
 
 module _ (store : List ℕ) (z : Sizes) (j : ℕ) (counts : List ℕ) where
   gathered_next : (k n : ℕ) → (read_log store z j).verdict ≡ Ok n → gathered store z (suc k) j counts ≡ gathered store z k (j + 1) (set counts j n)
@@ -44,6 +44,14 @@ module _ (store : List ℕ) (z : Sizes) (j : ℕ) (counts : List ℕ) where
   gathered_none : gathered store z 0 j counts ≡ Ok counts
   unfolding gathered
   gathered_none = refl
+
+  largest_next : (k : ℕ) → all_largest store z (suc k) j counts ≡ all_largest store z k (j + 1) (largest_in counts (read_log store z j).entries)
+  unfolding all_largest
+  largest_next k = refl
+
+  largest_none : all_largest store z 0 j counts ≡ counts
+  unfolding all_largest
+  largest_none = refl
 
   tested_next : (k n : ℕ) → (hold_log store z counts j).verdict ≡ Ok n → tested store z counts (suc k) j ≡ tested store z counts k (j + 1)
   unfolding tested
@@ -71,6 +79,14 @@ module _ (store : List ℕ) (z : Sizes) (j : ℕ) (counts : List ℕ) where
 
   pub gathered_all : z.cores ≤ j → gathered store z (z.cores - j) j counts ≡ Ok counts
   gathered_all h = let e : z.cores - j ≡ 0 = omega arith in ap (λ k. gathered store z k j counts) e ∙ gathered_none
+
+  pub largest_more : j < z.cores → all_largest store z (z.cores - j) j counts ≡ all_largest store z (z.cores - (j + 1)) (j + 1) (largest_in counts (read_log store z j).entries)
+  largest_more h =
+      let e : z.cores - j ≡ suc (z.cores - (j + 1)) = omega arith in
+      ap (λ k. all_largest store z k j counts) e ∙ largest_next (z.cores - (j + 1))
+
+  pub largest_all : z.cores ≤ j → all_largest store z (z.cores - j) j counts ≡ counts
+  largest_all h = let e : z.cores - j ≡ 0 = omega arith in ap (λ k. all_largest store z k j counts) e ∙ largest_none
 
   pub tested_more : (n : ℕ) → j < z.cores → (hold_log store z counts j).verdict ≡ Ok n →
       tested store z counts (z.cores - j) j ≡ tested store z counts (z.cores - (j + 1)) (j + 1)

@@ -5,7 +5,7 @@ use Rattle.records.specs.Faults.{Fault}
 use Rattle.records.specs.Format.{Entry, bytes_of}
 use Rattle.records.specs.Reading.{Sight, View, Next, moved, advanced, instructions_in}
 use Rattle.records.proofs.Looking.{seen_fits, held_fits, size_pos}
-use Rattle.logs.specs.Walk.{Reading, prefixed, stopped, told, walk, look, look_held, look_by, reading_from, holding_from, reading_by}
+use Rattle.logs.specs.Walk.{Reading, prefixed, stopped, told, walk, look, look_held, reading_from, holding_from}
 
 -- what a step of the reader says of what was seen
 saw_some : (v w : View) (e : Entry) (x : Sight) → ◌≡◌ {A = Next} (record { says = Ok (Some e); reader = w }) (advanced v x) →
@@ -34,7 +34,7 @@ module _ (see : View → Sight) (v : View) (f : ℕ) where
   pub walk_some : (e : Entry) (t : State) → see v ≡ Ok (Some (e, t)) → walk see (suc f) v ≡ prefixed e (walk see f (moved v e t))
   walk_some e t q = ap (λ x. told x v.state (λ e t. prefixed e (walk see f (moved v e t)))) q
 
-  walk_none : see v ≡ Ok None → walk see (suc f) v ≡ stopped (Ok (instructions_in v.state))
+  pub walk_none : see v ≡ Ok None → walk see (suc f) v ≡ stopped (Ok (instructions_in v.state))
   walk_none q = ap (λ x. told x v.state (λ e t. prefixed e (walk see f (moved v e t)))) q
 
   pub walk_fault : (d : Fault) → see v ≡ Err d → walk see (suc f) v ≡ stopped (Err d)
@@ -74,23 +74,15 @@ pub reading_starts : {Y : Type 0} (G : Reading → Y) (v : View) → Going G loo
 unfolding reading_from
 reading_starts G v = record { fuel = suc (length v.log); enough = omega arith; same = refl }
 
-holding_starts : {Y : Type 0} (G : Reading → Y) (counts : List ℕ) (v : View) → Going G (look_held counts) (G (holding_from counts v)) v
+pub holding_starts : {Y : Type 0} (G : Reading → Y) (counts : List ℕ) (v : View) → Going G (look_held counts) (G (holding_from counts v)) v
 unfolding holding_from
 holding_starts G counts v = record { fuel = suc (length v.log); enough = omega arith; same = refl }
 
 pub look_fits : (v : View) (e : Entry) (t : State) → look v ≡ Ok (Some (e, t)) → length (bytes_of e) ≤ length v.log - v.cursor
 look_fits v e t q = seen_fits v.heading v.log v.cursor v.state e t q
 
-held_look_fits : (counts : List ℕ) (v : View) (e : Entry) (t : State) → look_held counts v ≡ Ok (Some (e, t)) → length (bytes_of e) ≤ length v.log - v.cursor
+pub held_look_fits : (counts : List ℕ) (v : View) (e : Entry) (t : State) → look_held counts v ≡ Ok (Some (e, t)) → length (bytes_of e) ≤ length v.log - v.cursor
 held_look_fits counts v e t q = held_fits counts v.heading v.log v.cursor v.state e t q
-
-pub starts_by : {Y : Type 0} (G : Reading → Y) (held : Option (List ℕ)) (v : View) → Going G (look_by held) (G (reading_by held v)) v
-starts_by G None v = reading_starts G v
-starts_by G (Some counts) v = holding_starts G counts v
-
-pub look_by_fits : (held : Option (List ℕ)) (v : View) (e : Entry) (t : State) → look_by held v ≡ Ok (Some (e, t)) → length (bytes_of e) ≤ length v.log - v.cursor
-look_by_fits None v e t q = look_fits v e t q
-look_by_fits (Some counts) v e t q = held_look_fits counts v e t q
 
 -- a round of the loop: the reader at v answered, and stands at w now
 module _ (see : View → Sight) (fits : (v : View) (e : Entry) (t : State) → see v ≡ Ok (Some (e, t)) → length (bytes_of e) ≤ length v.log - v.cursor)

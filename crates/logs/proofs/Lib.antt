@@ -6,5 +6,6 @@ pub mod Arcs
 pub mod Judging
 pub mod Paths
 pub mod Sessions
+pub mod Sources
 pub mod StoreArcs
 pub mod WritingOut

@@ -120,7 +120,7 @@ faulted g log r (inr (before, d, q, o)) f e =
     let same : d ≡ f = cc in
     (before, subst (Broken g log before) same o)
 
-ok_err : {A : Type 0} (x : A) (f : Fault) → Ok x ≡ Err f → ⊥
+pub ok_err : {A : Type 0} (x : A) (f : Fault) → Ok x ≡ Err f → ⊥
 ok_err x f q = cc
 
 -- a session of bytes
@@ -242,7 +242,7 @@ module _ (store : List ℕ) (z : Sizes) (octets : AllByRecursion (λ b. b < 256)
           )
 
 -- the numbers of an answer tell its cases apart
-same_counts : (xs ys : List ℕ) → ◌≡◌ {A = List ℕ} (0 ∷ xs) (0 ∷ ys) → xs ≡ ys
+pub same_counts : (xs ys : List ℕ) → ◌≡◌ {A = List ℕ} (0 ∷ xs) (0 ∷ ys) → xs ≡ ys
 same_counts xs ys q = cc
 
 same_fault : (d f : Fault) → log_fault d ≡ log_fault f → d ≡ f
@@ -253,7 +253,7 @@ same_fault d f q =
     let e : d.cause ≡ f.cause = cc in
     λ i. record { layer = a i; core = b i; offset = c i; cause = e i }
 
-first_differs : (x y : ℕ) (xs ys : List ℕ) → x ∷ xs ≡ y ∷ ys → (x ≡ y → ⊥) → ⊥
+pub first_differs : (x y : ℕ) (xs ys : List ℕ) → x ∷ xs ≡ y ∷ ys → (x ≡ y → ⊥) → ⊥
 first_differs x y xs ys q n = let p : x ≡ y = cc in n p
 
 pub few_cores : (bytes : ℕ) (z : Sizes) → fits bytes z ≡ true → z.cores ≤ 4

@@ -1,9 +1,11 @@
 -- Reading all logs of a session.
-use Rattle.std.specs.Prelude.{ℕ, zero, suc, ◌+◌, cond, List, [], ◌∷◌, length, Ok, Err, Result, slice_set}
+use Rattle.std.specs.Prelude.{ℕ, zero, suc, ◌+◌, max, cond, List, [], ◌∷◌, length, Ok, Err, Result, slice_index, slice_set}
 use Rattle.records.specs.declared.faults.Refusal.{Refusal}
 use Rattle.records.specs.declared.settings.Sizes.{Sizes}
 use Rattle.records.specs.Faults.{Fault, refusal, bad_setting, log_fault}
+use Rattle.records.specs.Format.{Entry, head, arc, end}
 use Rattle.records.specs.Settings.{fits, log_of, heading_of}
+use Rattle.logs.specs.declared.session.Counted.{Counted}
 use Rattle.logs.specs.Walk.{Reading, reading_from, holding_from, at_front}
 
 -- core j's log, read from its front
@@ -31,6 +33,22 @@ tested store z counts (suc k) j = onward (hold_log store z counts j).verdict (λ
 abbrev pub no_counts : List ℕ
 no_counts = 0 ∷ 0 ∷ 0 ∷ 0 ∷ []
 
+-- the largest source count of the arcs from each core, with a record more
+abbrev pub raised : List ℕ → Entry → List ℕ
+raised largest (head core cores cells) = largest
+raised largest (arc a) = slice_set largest a.source (max (slice_index largest a.source) a.count)
+raised largest (end instructions arcs) = largest
+
+-- with records more
+abbrev pub largest_in : List ℕ → List Entry → List ℕ
+largest_in largest [] = largest
+largest_in largest (e ∷ more) = largest_in (raised largest e) more
+
+-- with the records of k cores' logs from core j on
+unfoldable pub all_largest : List ℕ → Sizes → ℕ → ℕ → List ℕ → List ℕ
+all_largest store z zero j largest = largest
+all_largest store z (suc k) j largest = all_largest store z k (j + 1) (largest_in largest (read_log store z j).entries)
+
 -- all logs, core 0 first; then, where all pass, their sources
 abbrev pub session : List ℕ → Sizes → Result (List ℕ) Fault
 session store z =
@@ -40,6 +58,11 @@ session store z =
 abbrev pub answer : Result (List ℕ) Refusal → List ℕ
 answer (Ok counts) = 0 ∷ counts
 answer (Err e) = refusal e
+
+-- the same of the counts that one reading gives
+abbrev pub counted_as : Result Counted Refusal → List ℕ
+counted_as (Ok c) = 0 ∷ c.counts
+counted_as (Err e) = refusal e
 
 abbrev pub outcome : Result (List ℕ) Fault → List ℕ
 outcome (Ok counts) = 0 ∷ counts

@@ -1,5 +1,5 @@
 -- Reading a log record by record.
-use Rattle.std.specs.Prelude.{ℕ, zero, suc, List, [], ◌∷◌, length, Some, None, Ok, Err, Option, Result}
+use Rattle.std.specs.Prelude.{ℕ, zero, suc, List, [], ◌∷◌, length, Some, None, Ok, Err, Result}
 use Rattle.records.specs.declared.faults.SessionFault.{SessionFault}
 use Rattle.records.specs.declared.reading.State.{State}
 use Rattle.records.specs.declared.reading.State.TheVariants.{Before}
@@ -42,15 +42,6 @@ reading_from v = walk look (suc (length v.log)) v
 -- the same, each arc's source count held to the instructions of its source core
 unfoldable pub holding_from : List ℕ → View → Reading
 holding_from counts v = walk (look_held counts) (suc (length v.log)) v
-
--- held where there are instructions to hold to
-abbrev pub look_by : Option (List ℕ) → View → Sight
-look_by None v = look v
-look_by (Some counts) v = look_held counts v
-
-abbrev pub reading_by : Option (List ℕ) → View → Reading
-reading_by None v = reading_from v
-reading_by (Some counts) v = holding_from counts v
 
 -- a reader before the head of a log
 abbrev pub at_front : Heading → List ℕ → View
