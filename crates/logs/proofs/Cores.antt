@@ -45,14 +45,6 @@ module _ (store : List ℕ) (z : Sizes) (j : ℕ) (counts : List ℕ) where
   unfolding gathered
   gathered_none = refl
 
-  largest_next : (k : ℕ) → all_largest store z (suc k) j counts ≡ all_largest store z k (j + 1) (largest_in counts (read_log store z j).entries)
-  unfolding all_largest
-  largest_next k = refl
-
-  largest_none : all_largest store z 0 j counts ≡ counts
-  unfolding all_largest
-  largest_none = refl
-
   tested_next : (k n : ℕ) → (hold_log store z counts j).verdict ≡ Ok n → tested store z counts (suc k) j ≡ tested store z counts k (j + 1)
   unfolding tested
   tested_next k n q = ap (λ x. onward x (λ _. tested store z counts k (j + 1))) q
@@ -80,14 +72,6 @@ module _ (store : List ℕ) (z : Sizes) (j : ℕ) (counts : List ℕ) where
   pub gathered_all : z.cores ≤ j → gathered store z (z.cores - j) j counts ≡ Ok counts
   gathered_all h = let e : z.cores - j ≡ 0 = omega arith in ap (λ k. gathered store z k j counts) e ∙ gathered_none
 
-  pub largest_more : j < z.cores → all_largest store z (z.cores - j) j counts ≡ all_largest store z (z.cores - (j + 1)) (j + 1) (largest_in counts (read_log store z j).entries)
-  largest_more h =
-      let e : z.cores - j ≡ suc (z.cores - (j + 1)) = omega arith in
-      ap (λ k. all_largest store z k j counts) e ∙ largest_next (z.cores - (j + 1))
-
-  pub largest_all : z.cores ≤ j → all_largest store z (z.cores - j) j counts ≡ counts
-  largest_all h = let e : z.cores - j ≡ 0 = omega arith in ap (λ k. all_largest store z k j counts) e ∙ largest_none
-
   pub tested_more : (n : ℕ) → j < z.cores → (hold_log store z counts j).verdict ≡ Ok n →
       tested store z counts (z.cores - j) j ≡ tested store z counts (z.cores - (j + 1)) (j + 1)
   tested_more n h q =
@@ -101,3 +85,21 @@ module _ (store : List ℕ) (z : Sizes) (j : ℕ) (counts : List ℕ) where
 
   pub tested_all : z.cores ≤ j → tested store z counts (z.cores - j) j ≡ Ok tt
   tested_all h = let e : z.cores - j ≡ 0 = omega arith in ap (λ k. tested store z counts k j) e ∙ tested_none
+
+-- the same of the largest source counts
+module _ (store : List ℕ) (z : Sizes) (j : ℕ) (largest : List ℕ) where
+  largest_next : (k : ℕ) → all_largest store z (suc k) j largest ≡ all_largest store z k (j + 1) (largest_in largest (read_log store z j).entries)
+  unfolding all_largest
+  largest_next k = refl
+
+  largest_none : all_largest store z 0 j largest ≡ largest
+  unfolding all_largest
+  largest_none = refl
+
+  pub largest_more : j < z.cores → all_largest store z (z.cores - j) j largest ≡ all_largest store z (z.cores - (j + 1)) (j + 1) (largest_in largest (read_log store z j).entries)
+  largest_more h =
+      let e : z.cores - j ≡ suc (z.cores - (j + 1)) = omega arith in
+      ap (λ k. all_largest store z k j largest) e ∙ largest_next (z.cores - (j + 1))
+
+  pub largest_all : z.cores ≤ j → all_largest store z (z.cores - j) j largest ≡ largest
+  largest_all h = let e : z.cores - j ≡ 0 = omega arith in ap (λ k. all_largest store z k j largest) e ∙ largest_none

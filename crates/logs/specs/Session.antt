@@ -33,18 +33,18 @@ tested store z counts (suc k) j = onward (hold_log store z counts j).verdict (λ
 abbrev pub no_counts : List ℕ
 no_counts = 0 ∷ 0 ∷ 0 ∷ 0 ∷ []
 
--- the largest source count of the arcs from each core, with a record more
+-- each core's largest source count so far, with a record more
 abbrev pub raised : List ℕ → Entry → List ℕ
 raised largest (head core cores cells) = largest
 raised largest (arc a) = slice_set largest a.source (max (slice_index largest a.source) a.count)
 raised largest (end instructions arcs) = largest
 
--- with records more
+-- with these records more
 abbrev pub largest_in : List ℕ → List Entry → List ℕ
 largest_in largest [] = largest
 largest_in largest (e ∷ more) = largest_in (raised largest e) more
 
--- with the records of k cores' logs from core j on
+-- with the records of k logs from core j on
 unfoldable pub all_largest : List ℕ → Sizes → ℕ → ℕ → List ℕ → List ℕ
 all_largest store z zero j largest = largest
 all_largest store z (suc k) j largest = all_largest store z k (j + 1) (largest_in largest (read_log store z j).entries)
@@ -59,7 +59,7 @@ abbrev pub answer : Result (List ℕ) Refusal → List ℕ
 answer (Ok counts) = 0 ∷ counts
 answer (Err e) = refusal e
 
--- the same of the counts that one reading gives
+-- the same, of what one reading gives
 abbrev pub counted_as : Result Counted Refusal → List ℕ
 counted_as (Ok c) = 0 ∷ c.counts
 counted_as (Err e) = refusal e

@@ -12,7 +12,7 @@ use records::reading::Reader;
 use records::settings::Sizes;
 use records::store::Logs;
 
-// What one reading of all logs gives: each core's instructions, and the largest source count of the arcs from it.
+// What one reading of all logs gives: each core's instructions, and the largest source count of any arc from it.
 #[derive(Clone, Copy)]
 struct Counted {
     counts: [u16; 4],
@@ -33,7 +33,8 @@ fn keep_largest(largest: &mut [u16; 4], record: Record)
     }
 }
 
-// Reads to the end of a log: the instructions that it gives, or the first fault; and the largest source counts with its arcs'.
+// Reads to the end of a log: the instructions that it gives, or the first fault of layers 1 and 2.
+// The source counts of its arcs are kept where they are the largest.
 #[inline(always)]
 fn read_through(from: Reader, largest: &mut [u16; 4]) -> Result<u16, SessionFault>
     ensures verdict { held_as result ≡ (reading_from (view from.entry)).verdict }
@@ -55,10 +56,12 @@ fn hold_through(from: Reader, counts: &[u16; 4]) -> Result<u16, SessionFault>
     Ok(reader.instructions())
 }
 
-// Each core's instructions, by its log, and the largest source counts, or the first fault of layers 1 and 2.
+// Each core's instructions, by its log, and the largest source counts; or the first fault of layers 1 and 2.
 fn read_counts(logs: Logs) -> Result<Counted, Refusal>
-    ensures counts { counted_as result ≡ outcome (gathered logs.entry.store.now logs.entry.sizes logs.entry.sizes.cores 0 no_counts) }
-    ensures largest { IfOk result (λ c. c.largest ≡ all_largest logs.entry.store.now logs.entry.sizes logs.entry.sizes.cores 0 no_counts) }
+    ensures counts { let z = logs.entry.sizes in
+        counted_as result ≡ outcome (gathered logs.entry.store.now z z.cores 0 no_counts) }
+    ensures largest { let z = logs.entry.sizes in
+        IfOk result (λ c. c.largest ≡ all_largest logs.entry.store.now z z.cores 0 no_counts) }
 {
     let mut counts = [0; 4];
     let mut largest = [0; 4];
@@ -82,10 +85,14 @@ fn hold_logs(logs: Logs, counts: &[u16; 4]) -> Result<(), Refusal>
 fn any_above(largest: &[u16; 4], counts: &[u16; 4]) -> bool
     ensures { result ≡ list_any (λ p. nat_lt p.1 p.0) (zip largest.now counts.now) }
 {
-    largest.iter().zip(counts).any(|(source, count)| *count < *source)
+    largest
+        .iter()
+        .zip(counts)
+        .any(|(source, count)| *count < *source)
 }
 
-// Layers 1 and 2 of all logs, then layer 3, for which the logs are read once more only where a source count is too large.
+// Layers 1 and 2 of all logs, then layer 3: where no largest source count is above its core's instructions,
+// no arc's is, and the logs need not be read once more.
 pub(crate) fn read_all(logs: Logs) -> Result<[u16; 4], Refusal>
     ensures { answer result ≡ outcome (session logs.entry.store.now logs.entry.sizes) }
 {

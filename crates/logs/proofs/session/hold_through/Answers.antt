@@ -4,7 +4,7 @@ use Rattle.std.proofs.lemmas.Result.{err_from_is_err_and}
 use Rattle.records.specs.Faults.{session_fault}
 use Rattle.records.specs.Format.{entry}
 use Rattle.records.specs.Reading.{view, held_said}
-use Rattle.logs.specs.Walk.{look_held, holding_from, held_as}
+use Rattle.logs.specs.Walk.{look_held, held_as}
 use Rattle.logs.proofs.Going.{holding_starts, held_look_fits, round_less, round_again, round_fault, round_none}
 use Rattle.logs.proofs.session.hold_through.Goals as goal
 

@@ -4,7 +4,7 @@ use Rattle.std.proofs.lemmas.Result.{err_from_is_err_and}
 use Rattle.records.specs.Faults.{record_fault}
 use Rattle.records.specs.Format.{entry}
 use Rattle.records.specs.Reading.{view, said}
-use Rattle.logs.specs.Walk.{look, prefixed, held_as}
+use Rattle.logs.specs.Walk.{look, held_as}
 use Rattle.logs.proofs.Going.{reading_starts, look_fits, round_less, round_again, round_fault, round_none}
 use Rattle.logs.proofs.Sources.{gives}
 use Rattle.logs.proofs.session.read_through.Goals as goal
