@@ -1,6 +1,6 @@
 ghost use Rattle.recorder.specs.Sound.{Sound};
 
-use records::settings::Sizes;
+use records::settings::CheckedSizes;
 
 // One core's log: how many instructions and arcs it tells of, and the offset of its end record.
 #[derive(Clone, Copy)]
@@ -22,7 +22,7 @@ impl Log {
 // The sizes of the session, each core's log, and how many turns were accepted.
 #[derive(Clone, Copy)]
 pub struct Ledger {
-    pub(crate) sizes: Sizes,
+    pub(crate) sizes: CheckedSizes,
     pub(crate) logs: [Log; 4],
     pub(crate) position: u32,
     ghost sound: { Sound sizes logs position },

@@ -14,7 +14,7 @@ use accesses::history::History;
 use cores::acting::act;
 use cores::interface::{Core, Request};
 use records::format::Record;
-use records::settings::{Heading, Sizes, buffers_hold, can_begin};
+use records::settings::{CheckedSizes, Heading, Sizes};
 use reducers::interface::Reducer;
 
 // An instruction that was carried out: the request, its count, the number that it brought and how many arcs were logged.
@@ -80,7 +80,7 @@ impl<R: Reducer> Recorder<R> {
         Recorder {
             reducer,
             history: History::new(),
-            ledger: Ledger::new(Sizes::default()),
+            ledger: Ledger::new(CheckedSizes::none()),
         }
     }
 
@@ -103,13 +103,14 @@ impl<R: Reducer> Recorder<R> {
         ensures outcome { record { says = begun_said result; leaves = tape R.Reducer.numbers self.new store.new } ≡ begun sizes (length cores.now) (length cells.now) (tape R.Reducer.numbers self.old store.old) }
         ensures refused { unmoved result self.old self.new }
     {
-        if !can_begin(sizes, cores.len(), cells.len(), store.len()) {
+        let Some(checked) = CheckedSizes::to_begin(sizes, cores.len(), cells.len(), store.len())
+        else {
             return Err(Refusal::BadSetting);
-        }
+        };
         begin_logs(store, sizes);
         self.reducer.reset();
         self.history.forget();
-        self.ledger = Ledger::new(sizes);
+        self.ledger = Ledger::new(checked);
         Ok(())
     }
 
@@ -135,7 +136,7 @@ impl<R: Reducer> Recorder<R> {
         let tail = Tail { offset: end, arcs };
         let mut log = CoreLog {
             store,
-            sizes: self.ledger.sizes,
+            sizes: self.ledger.sizes.get(),
             by,
             tail,
         };
@@ -161,10 +162,10 @@ impl<R: Reducer> Recorder<R> {
         ensures refused { unmoved result self.old self.new }
     {
         let sizes = self.ledger.sizes;
-        if !buffers_hold(sizes, cores.len(), cells.len(), store.len()) {
+        if !sizes.held_by(cores.len(), cells.len(), store.len()) {
             return Err(Refusal::BadSetting);
         }
-        if j >= sizes.cores {
+        if j >= sizes.get().cores {
             return Err(Refusal::NoSuchCore);
         }
         let mut core = cores[j];

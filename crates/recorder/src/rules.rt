@@ -9,7 +9,7 @@ ghost use Rattle.recorder.specs.Refusals.{book, touched, barred, code, counted_i
 use crate::ledger::{Ledger, Log};
 use cores::acting::cell_exists;
 use cores::interface::Request;
-use records::settings::Sizes;
+use records::settings::CheckedSizes;
 use reducers::interface::AccessKind;
 
 // Why a call does nothing.
@@ -49,7 +49,7 @@ pub(crate) fn touch_of(request: Request) -> Option<Touch>
 
 impl Ledger {
     // A ledger of empty logs.
-    pub(crate) fn new(sizes: Sizes) -> Ledger
+    pub(crate) fn new(sizes: CheckedSizes) -> Ledger
         requires few { sizes.cores ≤ 4 }
         requires room { 0 < sizes.cores → least_begun ≤ sizes.log_bytes }
         ensures { book result ≡ started sizes }
@@ -66,6 +66,7 @@ impl Ledger {
         requires { j < self.now.sizes.cores }
         ensures { code (result_err result) ≡ barred (book self.now) j request }
     {
+        let sizes = self.sizes.get();
         let log = self.logs[j];
         if request == Request::Halt {
             return Err(Refusal::Halted);
@@ -73,12 +74,12 @@ impl Ledger {
         if log.instructions == 65535 {
             return Err(Refusal::CountSpent);
         }
-        if !cell_exists(request, self.sizes.cells) {
+        if !cell_exists(request, sizes.cells) {
             return Err(Refusal::NoSuchCell);
         }
         // one arc from each other core must fit, whatever the reducer will answer
-        let free = self.sizes.free_behind(log.end);
-        if touch_of(request).is_some() && free < 7 * (self.sizes.cores - 1) {
+        let free = sizes.free_behind(log.end);
+        if touch_of(request).is_some() && free < 7 * (sizes.cores - 1) {
             return Err(Refusal::LogFull);
         }
         Ok(())

@@ -1,5 +1,5 @@
 -- The sizes of a session, and where its logs stand in a store.
-use Rattle.std.specs.Prelude.{◌≡◌, ℕ, ◌+◌, ◌-◌, ◌*◌, Bool, ◌&&◌, List, take, drop, nat_le}
+use Rattle.std.specs.Prelude.{◌≡◌, ℕ, ◌+◌, ◌-◌, ◌*◌, Bool, cond, ◌&&◌, ◌||◌, List, take, drop, Some, None, Option, ◌==◌, nat_le}
 use Rattle.records.specs.declared.settings.Sizes.{Sizes}
 use Rattle.records.specs.declared.settings.Heading.{Heading}
 use Rattle.records.specs.Format.{end_size}
@@ -30,6 +30,14 @@ settled_from least z cores cells bytes = fits_from least bytes z && (nat_le z.co
 
 abbrev pub settled : Sizes → ℕ → ℕ → ℕ → Bool
 settled z cores cells bytes = settled_from least_opened z cores cells bytes
+
+-- sizes before any session, or in range: they fit a store of just their bytes
+abbrev pub none_or_in_range : Sizes → Bool
+none_or_in_range z = (z.cores == 0) || fits (z.cores * z.log_bytes) z
+
+-- sizes that passed a test, or none
+abbrev pub passed_by : Bool → Sizes → Option Sizes
+passed_by test z = cond test (Some z) None
 
 -- the same for a recording to begin
 abbrev pub can_begin : Sizes → ℕ → ℕ → ℕ → Bool

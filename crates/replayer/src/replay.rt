@@ -13,13 +13,13 @@ use cores::interface::{Core, Request};
 use logs::session::read_logs;
 use records::faults::Refusal;
 use records::reading::SavedPlace;
-use records::settings::{Sizes, buffers_hold};
+use records::settings::{CheckedSizes, Sizes};
 
 // A replay of a session's logs: its sizes, each core's recorded instructions and how many of them are done,
 // and the place in each log behind the arcs to those.
 #[derive(Clone, Copy)]
 pub struct Replayer {
-    sizes: Sizes,
+    sizes: CheckedSizes,
     counts: [u16; 4],
     done: [u16; 4],
     places: [SavedPlace; 4],
@@ -34,7 +34,7 @@ const BEHIND_HEAD: SavedPlace = SavedPlace {
 };
 
 // A replay with nothing done.
-fn start(sizes: Sizes, counts: [u16; 4]) -> Replayer
+fn start(sizes: CheckedSizes, counts: [u16; 4]) -> Replayer
     ensures { result ≡ started sizes counts }
 {
     Replayer {
@@ -50,7 +50,7 @@ impl Replayer {
     pub fn new() -> Replayer
         ensures { result ≡ started no_sizes no_counts }
     {
-        start(Sizes::default(), [0; 4])
+        start(CheckedSizes::none(), [0; 4])
     }
 
     // Reads all logs; then a replay starts with nothing done. A refusal keeps the former replay.
@@ -64,11 +64,12 @@ impl Replayer {
         ensures outcome { record { says = done_as result; replayer = self.new } ≡ reopened self.old sizes (length cores.now) (length cells.now) store.now }
         ensures accepted { done_as result ≡ 0 ∷ [] → Accepted store.now sizes self.new.counts }
     {
-        if !buffers_hold(sizes, cores.len(), cells.len(), store.len()) {
+        let Some(checked) = CheckedSizes::to_open(sizes, cores.len(), cells.len(), store.len())
+        else {
             return Err(Refusal::BadSetting);
-        }
+        };
         let counts = read_logs(store, sizes)?;
-        *self = start(sizes, counts);
+        *self = start(checked, counts);
         Ok(())
     }
 
@@ -83,10 +84,10 @@ impl Replayer {
     ) -> Result<(), StepRefusal>
         ensures { Bars result self.now cores cells store_bytes j }
     {
-        if !buffers_hold(self.sizes, cores, cells, store_bytes) {
+        if !self.sizes.held_by(cores, cells, store_bytes) {
             return Err(StepRefusal::BadSetting);
         }
-        if j >= self.sizes.cores {
+        if j >= self.sizes.get().cores {
             return Err(StepRefusal::NoSuchCore);
         }
         if self.done[j] >= self.counts[j] {
@@ -108,7 +109,7 @@ impl Replayer {
     {
         self.bars(cores, cells, store.len(), j)?;
         let place = self.places[j];
-        Ok(read_group(store, self.sizes, j, place, &self.counts, &self.done)?)
+        Ok(read_group(store, self.sizes.get(), j, place, &self.counts, &self.done)?)
     }
 
     // Counts the next instruction of core `j`, whose place moves behind the arcs to it, and gives the count.
@@ -124,7 +125,7 @@ impl Replayer {
         if request == Request::Halt {
             return Err(StepRefusal::Halted);
         }
-        if !cell_exists(request, self.sizes.cells) {
+        if !cell_exists(request, self.sizes.get().cells) {
             return Err(StepRefusal::NoSuchCell);
         }
         self.done[j] += 1;
@@ -168,7 +169,7 @@ impl Replayer {
         self.counts
             .iter()
             .zip(&self.done)
-            .take(self.sizes.cores)
+            .take(self.sizes.get().cores)
             .map(|(count, done)| u32::from(count.saturating_sub(*done)))
             .sum()
     }
@@ -185,7 +186,7 @@ impl Replayer {
         ensures surplus { SurplusKept self.old.sizes cores.old cores.new cells.old cells.new }
     {
         let mut carried = 0;
-        for j in 0..self.sizes.cores {
+        for j in 0..self.sizes.get().cores {
             if self.step(text, cores, cells, store, j).is_ok() {
                 carried += 1;
             }
@@ -205,7 +206,7 @@ impl Replayer {
         ensures surplus { SurplusKept self.old.sizes cores.old cores.new cells.old cells.new }
         ensures refused { RunKept result cores.old cores.new }
     {
-        if !buffers_hold(self.sizes, cores.len(), cells.len(), store.len()) {
+        if !self.sizes.held_by(cores.len(), cells.len(), store.len()) {
             return Err(Refusal::BadSetting);
         }
         let total = self.left();

@@ -28,7 +28,7 @@ log_access-requires-clause-room g c =
     let roomy = l.sound.2 j p.inside in
     let fit = turn_fits (book l) j c.args.request p.unbarred h (length c.args.store.now) p.fitting p.inside roomy.0 roomy.1
     (present (candidates_for l.sizes.cores h j (touched c.args.request))) (omega arith) in
-    omega (arith, fit.0)
+    rw c.get.ensures.same (omega (arith, fit.0))
 
 -- the end record fits behind the arcs, and they behind the head
 fit : (g : Over) (c : After-log_access g) →
@@ -41,11 +41,11 @@ fit g c =
     let roomy = l.sound.2 c.args.j p.inside in
     behind_fits m.meets (tape m.numbers c.args.self.now c.args.store.now) c.args.j c.args.request
     (m.numbers c.log_access.new.reducer) log.tail log.store.now (length c.args.store.now)
-    p.unbarred p.fitting p.inside roomy.0 roomy.1 c.log_access.ensures.logged
+    p.unbarred p.fitting p.inside roomy.0 roomy.1 (rw c.get.ensures.same at c.log_access.ensures.logged)
 
 pub end-requires : goal.end-requires
 end-requires g c =
-    let bytes = ap (λ (z : Sizes). z.log_bytes) c.log_access.ensures.same.1 in
+    let bytes = ap (λ (z : Sizes). z.log_bytes) (c.log_access.ensures.same.1 ∙ c.get.ensures.same) in
     let f = fit g (goal.at.end-requires g c).After-log_access in
     record { room = omega (arith, f.0, bytes) }
 
@@ -62,15 +62,16 @@ returns-clause-entered g c =
     let j = c.args.j in
     let log = c.log_access.new.self in
     let same = c.log_access.ensures.same in
+    let sizes = same.1 ∙ c.get.ensures.same in
     let roomy = l.sound.2 j c.requires.inside in
     let inside = log_room (length c.args.store.now) l.sizes j c.requires.fitting c.requires.inside in
     let room : j * l.sizes.log_bytes + (log_in (book l) j).end ≤ length c.args.store.now = omega (arith, roomy.1, inside) in
     let last : c.end.new.self.store.now
     ≡ splice (j * l.sizes.log_bytes + log.tail.offset) (bytes_of (end_entry ((log_in (book l) j).instructions + 1) log.tail.arcs)) log.store.now =
     c.end.ensures.bytes
-    ∙ (λ i. splice ((same.2 i).core * (same.1 i).log_bytes + log.tail.offset) (bytes_of (end_entry (same.2 i).count log.tail.arcs)) log.store.now)
+    ∙ (λ i. splice ((same.2 i).core * (sizes i).log_bytes + log.tail.offset) (bytes_of (end_entry (same.2 i).count log.tail.arcs)) log.store.now)
     in
     entered_from m.meets (tape m.numbers c.args.self.now c.args.store.now) j c.args.request
     (m.numbers c.log_access.new.reducer) log.tail log.store.now _
     (log.tail.arcs - (log_in (book l) j).arcs) (book c.count.new.self) c.log_access.new.history.cells
-    room c.log_access.ensures.logged (search rules) refl c.count.ensures c.log_access.ensures.remembered
+    room (rw c.get.ensures.same at c.log_access.ensures.logged) (search rules) refl c.count.ensures c.log_access.ensures.remembered

@@ -1,5 +1,6 @@
 -- Each step of the circle is counted where it was carried out, and leaves what is beyond the sizes.
 use Rattle.std.proofs.Common.{◌≡◌, ◌+◌, ◌≤◌, cond, map, sym, ap, ◌∙◌, subst, arith}
+use Rattle.records.proofs.Settling.{cores_of}
 use Rattle.replayer.specs.Answers.{step_numbers}
 use Rattle.replayer.specs.Runs.{session, counted}
 use Rattle.records.specs.Settings.{SurplusKept}
@@ -23,7 +24,7 @@ loop-j-preserved g c =
     let o : Outcome = record { says = step_numbers r; replayer = c.step.new.self; cells = c.step.new.cells; states = map g.K.Core.state c.step.new.cores } in (
       few,
       circled_more _ _ _ _ a.self.now.sizes.cores l.j (session l.carried l.self l.cells (map g.K.Core.state l.cores))
-          c.loop-j-test.true o c.step.ensures.outcome _ more
+          (omega (arith, c.loop-j-test.true, cores_of c.get-j-end.ensures.same)) o c.step.ensures.outcome _ more
           ∙ l.invariant.1,
       (kept.0 ∙ l.invariant.2.0, kept.1 ∙ l.invariant.2.1),
       moves_on a.self.now l.self c.step.new.self l.carried (counted (step_numbers r)) c.if-is_ok.carried l.invariant.3
@@ -31,11 +32,11 @@ loop-j-preserved g c =
     )
 
 pub returns-clause-circled : goal.returns-clause-circled
-returns-clause-circled g c = sym (circled_all _ _ _ _ c.args.self.now.sizes.cores c.loop-j.j _ c.loop-j-test.false) ∙ c.loop-j.invariant.1
+returns-clause-circled g c = sym (circled_all _ _ _ _ c.args.self.now.sizes.cores c.loop-j.j _ (omega (arith, c.loop-j-test.false, cores_of c.get-j-end.ensures.same))) ∙ c.loop-j.invariant.1
 
 pub overflow_add-carried : goal.overflow_add-carried
 overflow_add-carried g c =
     let l = c.loop-j in
     let few = step_few g.K.Core.next g.K.Core.after c.args.text.now c.args.store.now l.self l.cells (map g.K.Core.state l.cores) l.j
     (ap (λ o. counted o.says) (sym c.step.ensures.outcome) ∙ counted_step c.step.result ∙ ap (λ b. cond b 1 0) (sym c.if-is_ok.ensures.value)) in
-    omega (arith, few, l.invariant.0, ap (λ z. z.cores) l.invariant.3.sizes, c.loop-j-test.true)
+    omega (arith, few, l.invariant.0, cores_of l.invariant.3.sizes, cores_of c.get-j-end.ensures.same, c.loop-j-test.true)

@@ -6,15 +6,15 @@ use Rattle.records.specs.Settings.{SurplusKept}
 use Rattle.replayer.proofs.Runs.{run_unsettled, running_start, running_over, running_stop, running_more, Moves, around_moves}
 use Rattle.replayer.proofs.replay.Replayer.run.Goals as goal
 
-pub returns-then-not-buffers_hold-clause-outcome : goal.returns-then-not-buffers_hold-clause-outcome
-returns-then-not-buffers_hold-clause-outcome g c =
-    run_unsettled _ _ _ _ c.args.self.now c.args.cells.now (map g.K.Core.state c.args.cores.now) (simp length-map c.if-not-buffers_hold.ensures)
+pub returns-then-not-held_by-clause-outcome : goal.returns-then-not-held_by-clause-outcome
+returns-then-not-held_by-clause-outcome g c =
+    run_unsettled _ _ _ _ c.args.self.now c.args.cells.now (map g.K.Core.state c.args.cores.now) (simp length-map c.if-not-held_by.ensures)
 
 pub loop-steps-init : goal.loop-steps-init
 loop-steps-init g c =
     let a = c.args in
     let four : length a.self.now.done ≡ 4 = search rules in (
-      running_start _ _ _ _ a.self.now a.cells.now (map g.K.Core.state a.cores.now) (simp length-map c.if-not-buffers_hold.ensures) four,
+      running_start _ _ _ _ a.self.now a.cells.now (map g.K.Core.state a.cores.now) (simp length-map c.if-not-held_by.ensures) four,
       (refl, refl),
     )
 
