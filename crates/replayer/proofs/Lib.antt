@@ -6,3 +6,5 @@ mod Stopping
 pub mod Standing
 pub mod Following
 pub mod Memories
+pub mod GroupFaults
+pub mod FirstFaults

@@ -4,3 +4,4 @@ pub mod Steps
 pub mod Runs
 pub mod Following
 pub mod Memories
+pub mod GroupFaults

@@ -1,4 +1,5 @@
 ghost use Rattle.replayer.specs.Following.{OpeningFollows, StepReads, StepWaits, StepsFollow, RunsFollow};
+ghost use Rattle.replayer.specs.GroupFaults.{GroupsReadExactly, StepsNameFirstFaults};
 ghost use Rattle.replayer.specs.Runs.{RunsStopExactly};
 ghost use Rattle.replayer.specs.Memories.{StepsAlike, StepsPlay, RunsPlay};
 
@@ -10,6 +11,13 @@ pub fn replays_follow_their_logs()
     ensures waits { StepWaits }
     ensures steps { StepsFollow }
     ensures runs { RunsFollow }
+{}
+
+// Holds the laws of damaged logs: over any bytes, a group is refused exactly for its first fault and read exactly as it
+// stands in its log, and a step names a fault exactly if it is the first of its core's group.
+pub fn steps_name_first_faults()
+    ensures groups { GroupsReadExactly }
+    ensures steps { StepsNameFirstFaults }
 {}
 
 // Holds the law that a run stops exactly if, where it ends, something is left and no core's step is carried out.
