@@ -16,7 +16,8 @@ use Rattle.logs.specs.Lawful.{Within}
 use Rattle.logs.proofs.Bytes.{octets_take, octets_drop}
 use Rattle.replayer.specs.declared.group.Group.{Group}
 use Rattle.replayer.specs.declared.replay.Replayer.{Replayer}
-use Rattle.replayer.specs.GroupFaults.{behind, ArcsThere, EndsAt, GroupBroken, FirstWait, all_done, first_waits, GroupRead, GroupExactly, GroupsReadExactly, StepsNameFirstFaults}
+use Rattle.replayer.specs.Damaged.{StepsNameFirstFaults}
+use Rattle.replayer.specs.GroupFaults.{behind, ArcsThere, EndsAt, GroupBroken, FirstWait, all_done, first_waits, GroupRead, GroupExactly, GroupsReadExactly}
 use Rattle.replayer.specs.Groups.{arc_seen, at_place, Grouped, group, group_at, is_done, source_of, waits_for, held_up, read_group}
 use Rattle.replayer.specs.Steps.{behind_head, Outcome, freed, passed, cleared, refused, acted, gone, stepped}
 use Rattle.replayer.proofs.GroupFaults.{Groups, grouped, faulted, groups, read_there, broken_there}
@@ -64,7 +65,7 @@ module _ (counts done : List ℕ) (g : Heading) (log : List ℕ) (octets : AllBy
   Broken f = GroupBroken counts g log t p f
 
   abbrev Read : Group → Type 0
-  Read x = GroupRead counts done g log t p x
+  Read x = GroupRead counts g log t p done x
 
   broken_of : (x : Result Grouped Fault) → Groups counts g log octets t p x → (f : Fault) → held_up done None x ≡ Err (log_fault f) → Broken f
   broken_of x (grouped arcs rest h e) f q = absurd cc

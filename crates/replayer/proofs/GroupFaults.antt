@@ -12,9 +12,8 @@ use Rattle.records.specs.Format.{LogArc, Entry, head, arc, end, bytes_of, writte
 use Rattle.records.specs.Reading.{broken, marked, entry_at, arc_stands, one_more, resumed, passed, judged, held_at}
 use Rattle.logs.specs.Lawful.{Stands, Within, Marks, head_mark, arc_mark, end_mark, Breaks, no_mark, cut, unknown_mark, no_head, head_later, bad_arc, bad_end}
 use Rattle.logs.proofs.Bytes.{octets_drop, read_back, written_back, unread}
-use Rattle.replayer.specs.Following.{past, past_all}
 use Rattle.replayer.specs.GroupFaults.{MayStand, MayEnd, behind, InTurn, ArcsThere, BreaksAt, no_record, head_there, arc_may_not, end_may_not, from_beyond, EndsAt, other_arc, log_end, GroupBroken}
-use Rattle.replayer.specs.Groups.{ArcSight, arc_of, arc_seen, at_place, Grouped, none_at, joined, picked, group}
+use Rattle.replayer.specs.Groups.{ArcSight, arc_of, arc_seen, at_place, past, Grouped, none_at, joined, picked, group}
 
 -- the reader's tests say what may stand at a place
 module _ (g : Heading) (p : SavedPlace) where

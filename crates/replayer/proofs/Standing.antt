@@ -13,8 +13,8 @@ use Rattle.records.proofs.Looking.{seen_both}
 use Rattle.logs.specs.Lawful.{Between, arcs_in, Behind, Lawful, Within, Holds}
 use Rattle.logs.proofs.Arcs.{all_append, arcs_append}
 use Rattle.logs.proofs.Paths.{Path, path, size}
-use Rattle.replayer.specs.Following.{past, past_all, arcs_to, Stands}
-use Rattle.replayer.specs.Groups.{arc_of, arc_seen, at_place, Grouped, none_at, joined, picked, group, group_at}
+use Rattle.replayer.specs.Following.{arcs_to, Stands}
+use Rattle.replayer.specs.Groups.{arc_of, arc_seen, at_place, past, past_all, Grouped, none_at, joined, picked, group, group_at}
 use Rattle.replayer.specs.Steps.{behind_head}
 
 -- filters, by the first arc

@@ -1,28 +1,16 @@
 -- A replay follows the logs that were opened: each core's place stands behind the arcs of the instructions that it has done.
-use Rattle.std.specs.Prelude.{◌≡◌, ℕ, ◌+◌, ◌<◌, ◌≤◌, true, List, [], ◌∷◌, ◌++◌, length, Ok, filter, nat_eq, slice_index, slice_index_or, slice_set}
+use Rattle.std.specs.Prelude.{◌≡◌, ℕ, ◌+◌, ◌<◌, ◌≤◌, true, List, [], ◌∷◌, ◌++◌, length, Ok, filter, nat_eq, slice_index, slice_index_or}
 use Rattle.std.specs.List.{AllByRecursion}
 use Rattle.cores.specs.declared.interface.Request.{Request}
 use Rattle.records.specs.declared.reading.SavedPlace.{SavedPlace}
 use Rattle.records.specs.declared.settings.Sizes.{Sizes}
-use Rattle.records.specs.Format.{LogArc, Entry, head, arc, end, bytes_of}
-use Rattle.records.specs.Reading.{one_more}
+use Rattle.records.specs.Format.{LogArc, Entry}
 use Rattle.records.specs.Settings.{fits, settled}
 use Rattle.logs.specs.Lawful.{arcs_in, Within, LogHolds, Accepted}
 use Rattle.replayer.specs.declared.replay.Replayer.{Replayer}
-use Rattle.replayer.specs.Groups.{waits_for}
+use Rattle.replayer.specs.Groups.{past_all, waits_for}
 use Rattle.replayer.specs.Runs.{ran}
 use Rattle.replayer.specs.Steps.{behind_head, reopened, ahead, freed, gone, stepped}
-
--- the place behind an entry of a body, and behind entries
-abbrev pub past : SavedPlace → Entry → SavedPlace
-past p (head _ _ _) = p
-past p (arc a) =
-    record { offset = p.offset + length (bytes_of (arc a)); last = a.target; latest = slice_set p.latest a.source a.target; arcs = one_more p.arcs }
-past p (end _ _) = p
-
-abbrev pub past_all : SavedPlace → List Entry → SavedPlace
-past_all p [] = p
-past_all p (e ∷ more) = past_all (past p e) more
 
 -- the arcs to one instruction
 abbrev pub arcs_to : ℕ → List LogArc → List LogArc

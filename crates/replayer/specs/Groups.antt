@@ -1,13 +1,13 @@
 -- The arcs to a core's next instruction, as a step reads them.
-use Rattle.std.specs.Prelude.{◌≡◌, ℕ, zero, suc, ◌+◌, Bool, cond, ◌&&◌, List, [], ◌∷◌, length, Some, None, Ok, Err, Option, Result, ◌==◌, nat_le, nat_lt, slice_index}
+use Rattle.std.specs.Prelude.{◌≡◌, ℕ, zero, suc, ◌+◌, Bool, cond, ◌&&◌, List, [], ◌∷◌, length, Some, None, Ok, Err, Option, Result, ◌==◌, nat_le, nat_lt, slice_index, slice_set}
 use Rattle.records.specs.declared.faults.Refusal.{Refusal}
 use Rattle.records.specs.declared.faults.SessionFault.{SessionFault}
 use Rattle.records.specs.declared.reading.SavedPlace.{SavedPlace}
 use Rattle.records.specs.declared.settings.Heading.{Heading}
 use Rattle.records.specs.declared.settings.Sizes.{Sizes}
 use Rattle.records.specs.Faults.{Fault, session_fault, bad_setting, log_fault, refusal}
-use Rattle.records.specs.Format.{LogArc, head, arc, end, bytes_of}
-use Rattle.records.specs.Reading.{Sight, View, held, place_in, resumed}
+use Rattle.records.specs.Format.{LogArc, Entry, head, arc, end, bytes_of}
+use Rattle.records.specs.Reading.{Sight, View, held, one_more, place_in, resumed}
 use Rattle.records.specs.Settings.{fits, log_of, heading_of}
 use Rattle.records.specs.declared.format.Source.{Source}
 use Rattle.replayer.specs.declared.group.Group.{Group}
@@ -36,6 +36,21 @@ arc_seen counts v = arc_of v.cursor (held counts v.heading v.log v.cursor v.stat
 -- a reader at a place of a log
 abbrev pub at_place : Heading → List ℕ → SavedPlace → View
 at_place g log p = record { heading = g; log = log; cursor = p.offset; state = resumed p }
+
+-- the place behind an entry that stands at a place, and behind entries
+abbrev pub past : SavedPlace → Entry → SavedPlace
+past p (head _ _ _) = p
+past p (arc a) = record {
+  offset = p.offset + length (bytes_of (arc a));
+  last = a.target;
+  latest = slice_set p.latest a.source a.target;
+  arcs = one_more p.arcs;
+}
+past p (end _ _) = p
+
+abbrev pub past_all : SavedPlace → List Entry → SavedPlace
+past_all p [] = p
+past_all p (e ∷ more) = past_all (past p e) more
 
 -- arcs that were read, and the place behind them
 pub record Grouped : Type 0 where

@@ -5,3 +5,4 @@ pub mod Runs
 pub mod Following
 pub mod Memories
 pub mod GroupFaults
+pub mod Damaged

@@ -1,5 +1,6 @@
+ghost use Rattle.replayer.specs.Damaged.{StepsNameFirstFaults};
 ghost use Rattle.replayer.specs.Following.{OpeningFollows, StepReads, StepWaits, StepsFollow, RunsFollow};
-ghost use Rattle.replayer.specs.GroupFaults.{GroupsReadExactly, StepsNameFirstFaults};
+ghost use Rattle.replayer.specs.GroupFaults.{GroupsReadExactly};
 ghost use Rattle.replayer.specs.Runs.{RunsStopExactly};
 ghost use Rattle.replayer.specs.Memories.{StepsAlike, StepsPlay, RunsPlay};
 
