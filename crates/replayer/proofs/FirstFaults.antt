@@ -1,5 +1,5 @@
 -- A group is refused exactly for its first fault, and read exactly as it stands in its log; and so says a step.
-use Rattle.std.proofs.Common.{◌≡◌, ℕ, zero, suc, ◌+◌, ◌-◌, ◌*◌, ◌<◌, ◌≤◌, Bool, true, false, cond, ◌&&◌, ltb, leb, List, [], ◌∷◌, ◌++◌, map, length, get_or, take, drop, Some, None, Ok, Err, Option, Result, sym, refl, ap, ◌∙◌, subst, arith}
+use Rattle.std.proofs.Common.{◌≡◌, ℕ, zero, suc, ◌+◌, ◌-◌, ◌*◌, ◌<◌, ◌≤◌, Bool, true, false, cond, ◌&&◌, ltb, leb, List, [], ◌∷◌, ◌++◌, map, length, get_or, take, drop, Some, None, Ok, Err, Option, Result, sym, refl, ap, ◌∙◌, subst, Fits, w8, arith}
 use Rattle.std.specs.List.{AllByRecursion}
 use Rattle.std.proofs.lemmas.Bool.{and_from, and_parts, lt-ltb, lt-leb, le-leb, leb-true, leb-false, cond-true, cond-false}
 use Rattle.cores.specs.declared.interface.Request.{Request}
@@ -14,6 +14,7 @@ use Rattle.records.specs.Format.{LogArc}
 use Rattle.records.specs.Settings.{fits, log_of, heading_of, settled}
 use Rattle.logs.specs.Lawful.{Within}
 use Rattle.logs.proofs.Bytes.{octets_take, octets_drop}
+use Rattle.logs.proofs.Sessions.{bytes_octets}
 use Rattle.replayer.specs.declared.group.Group.{Group}
 use Rattle.replayer.specs.declared.replay.Replayer.{Replayer}
 use Rattle.replayer.specs.Damaged.{StepsNameFirstFaults}
@@ -133,6 +134,12 @@ groups_read_exactly store z j p counts done octets = go (fits (length store) z &
       read = λ x. ((λ s. absurd cc), (λ h. let b : true ≡ false = sym h.0 ∙ q in absurd cc));
       unfit = ((λ _. q), (λ _. refl));
     }
+
+-- an answer that is the definition's, over a slice of bytes
+pub group_says_exactly : (store : List ℕ) (z : Sizes) (j : ℕ) (p : SavedPlace) (counts done : List ℕ) (says : Result Group (List ℕ)) → ((i : ℕ) → Fits w8 (get_or store i 0)) →
+    says ≡ read_group store z j p counts done → GroupExactly store z j p counts done says
+group_says_exactly store z j p counts done says fits q =
+    subst (GroupExactly store z j p counts done) (sym q) (groups_read_exactly store z j p counts done (bytes_octets store fits))
 
 -- what a step says of a core that has an instruction left
 module _

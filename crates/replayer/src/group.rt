@@ -1,5 +1,6 @@
 ghost use Rattle.std.specs.Prelude.{◌≡◌};
 ghost use Rattle.records.specs.Reading.{view};
+ghost use Rattle.replayer.specs.GroupFaults.{GroupExactly};
 ghost use Rattle.replayer.specs.Groups.{arc_seen, arc_as, StandsBehind, first_source, read_group, group_as};
 
 use records::faults::{Refusal, SessionFault};
@@ -53,7 +54,8 @@ pub fn read_group(
     counts: &[u16; 4],
     done: &[u16; 4],
 ) -> Result<Group, Refusal>
-    ensures { group_as result ≡ read_group store.now sizes core place counts.now done.now }
+    ensures answer { group_as result ≡ read_group store.now sizes core place counts.now done.now }
+    ensures exactly { GroupExactly store.now sizes core place counts.now done.now (group_as result) }
 {
     let mut reader = Reader::resume(store, sizes, core, place)?;
     let next = done[core] as u32 + 1;

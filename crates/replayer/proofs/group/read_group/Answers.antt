@@ -5,6 +5,7 @@ use Rattle.records.specs.Faults.{refusal, session_fault}
 use Rattle.records.specs.Reading.{view}
 use Rattle.records.specs.Settings.{fits, log_of, heading_of}
 use Rattle.replayer.specs.Groups.{arc_seen, arc_as, at_place, group_at, held_up, read_group, group_as, log_arc, StandsBehind}
+use Rattle.replayer.proofs.FirstFaults.{group_says_exactly}
 use Rattle.replayer.proofs.Readings.{Reading, arc_fits, reading_fault, reading_none, reading_other, reading_more, reading_starts, refused_if, resumes, whole_group}
 use Rattle.replayer.proofs.group.read_group.Goals as goal
 use Rattle.replayer.proofs.group.read_group.Goals.{In_ok-reader, In-Some}
@@ -26,9 +27,9 @@ whole c =
 saw : (c : In-Some) → arc_seen c.args.counts.now (at_place c.in_ok-reader.reader.heading c.in_ok-reader.reader.log.now c.loop-read.behind) ≡ Ok (Some (log_arc c.in-Some.read, c.in-Some.read.behind))
 saw c = ap (arc_seen c.args.counts.now) (sym c.loop-read.invariant.1) ∙ sym c.next_arc.ensures.arc ∙ ap arc_as (c.in_ok-read.was ∙ ap Ok c.in-Some.is)
 
-pub returns-in_err-reader : goal.returns-in_err-reader
+pub returns-in_err-reader-clause-answer : goal.returns-in_err-reader-clause-answer
 unfolding read_group
-returns-in_err-reader c =
+returns-in_err-reader-clause-answer c =
     let a = c.args in
     let is : c.from_residual.result ≡ Err c.in_err-reader.field-0.0 = search rules in
     ap group_as is
@@ -43,15 +44,15 @@ loop-read-init c =
       (λ i. record { heading = r.heading; log = r.log.now; cursor = (q i).cursor; state = (q i).state }),
     )
 
-pub returns-in_err-read : goal.returns-in_err-read
-returns-in_err-read c =
+pub returns-in_err-read-clause-answer : goal.returns-in_err-read-clause-answer
+returns-in_err-read-clause-answer c =
     let a = c.args in
     let r = c.in_ok-reader.reader in
     let is : c.from_residual-in_err-read.result ≡ Err (LogFault c.in_err-read.field-0.0) = search rules in
     ap group_as is
     ∙ reading_fault a.counts.now r.heading r.log.now a.done.now _ _ c.loop-read.behind c.loop-read.waits c.loop-read.invariant.0
     (session_fault c.in_err-read.field-0.0) (ap (arc_seen a.counts.now) (sym c.loop-read.invariant.1) ∙ sym c.in_err-read.ensures.arc)
-    ∙ whole (goal.at.returns-in_err-read c).In_ok-reader
+    ∙ whole (goal.at.returns-in_err-read-clause-answer c).In_ok-reader
 
 -- the reader that read an arc stands behind it
 on : (c : In-Some) → view c.next_arc.new.reader ≡ at_place c.in_ok-reader.reader.heading c.in_ok-reader.reader.log.now c.in-Some.read.behind
@@ -82,18 +83,31 @@ loop-read-preserved c =
       on w,
     )
 
-pub returns-then-read-next : goal.returns-then-read-next
-returns-then-read-next c =
+pub returns-then-read-next-clause-answer : goal.returns-then-read-next-clause-answer
+returns-then-read-next-clause-answer c =
     let a = c.args in
     let r = c.in_ok-reader.reader in
     reading_other a.counts.now r.heading r.log.now a.done.now _ _ c.loop-read.behind c.loop-read.waits c.loop-read.invariant.0
-    (log_arc c.in-Some.read) c.in-Some.read.behind (saw (goal.at.returns-then-read-next c).In-Some) c.if-read-next.true
-    ∙ whole (goal.at.returns-then-read-next c).In_ok-reader
+    (log_arc c.in-Some.read) c.in-Some.read.behind (saw (goal.at.returns-then-read-next-clause-answer c).In-Some) c.if-read-next.true
+    ∙ whole (goal.at.returns-then-read-next-clause-answer c).In_ok-reader
 
-pub returns-in_default : goal.returns-in_default
-returns-in_default c =
+pub returns-in_default-clause-answer : goal.returns-in_default-clause-answer
+returns-in_default-clause-answer c =
     let a = c.args in
     let r = c.in_ok-reader.reader in
     reading_none a.counts.now r.heading r.log.now a.done.now _ _ c.loop-read.behind c.loop-read.waits c.loop-read.invariant.0
     (ap (arc_seen a.counts.now) (sym c.loop-read.invariant.1) ∙ sym c.next_arc.ensures.arc ∙ ap arc_as (c.in_ok-read.was ∙ ap Ok c.in_default.is))
-    ∙ whole (goal.at.returns-in_default c).In_ok-reader
+    ∙ whole (goal.at.returns-in_default-clause-answer c).In_ok-reader
+
+-- each in words
+pub returns-in_err-reader-clause-exactly : goal.returns-in_err-reader-clause-exactly
+returns-in_err-reader-clause-exactly c = group_says_exactly c.args.store.now c.args.sizes c.args.core c.args.place c.args.counts.now c.args.done.now _ c.type_inv.store (returns-in_err-reader-clause-answer c)
+
+pub returns-in_err-read-clause-exactly : goal.returns-in_err-read-clause-exactly
+returns-in_err-read-clause-exactly c = group_says_exactly c.args.store.now c.args.sizes c.args.core c.args.place c.args.counts.now c.args.done.now _ c.type_inv.store (returns-in_err-read-clause-answer c)
+
+pub returns-then-read-next-clause-exactly : goal.returns-then-read-next-clause-exactly
+returns-then-read-next-clause-exactly c = group_says_exactly c.args.store.now c.args.sizes c.args.core c.args.place c.args.counts.now c.args.done.now _ c.type_inv.store (returns-then-read-next-clause-answer c)
+
+pub returns-in_default-clause-exactly : goal.returns-in_default-clause-exactly
+returns-in_default-clause-exactly c = group_says_exactly c.args.store.now c.args.sizes c.args.core c.args.place c.args.counts.now c.args.done.now _ c.type_inv.store (returns-in_default-clause-answer c)

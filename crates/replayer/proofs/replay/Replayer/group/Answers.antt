@@ -20,13 +20,13 @@ returns-in_err-read_group c =
     let inside : a.j < length a.self.now.places = search rules in
     subst (λ x. Grouped x a.self.now a.cores a.cells a.store.now a.j) (sym is)
     (faulty _ _ _ _ _ c.in_ok-bars.ensures.0 c.in_ok-bars.ensures.1 c.in_ok-bars.ensures.2
-    e (ahead_is a.self.now a.store.now a.j inside (Err (refusal e)) (rw c.get.ensures.same at c.in_err-read_group.ensures)))
+    e (ahead_is a.self.now a.store.now a.j inside (Err (refusal e)) (rw c.get.ensures.same at c.in_err-read_group.ensures.answer)))
 
 pub returns : goal.returns
 returns c =
     let a = c.args in
     let inside : a.j < length a.self.now.places = search rules in
     let more = c.in_ok-bars.ensures in (
-      read _ _ _ _ _ more.0 more.1 more.2 _ (ahead_is a.self.now a.store.now a.j inside _ (rw c.get.ensures.same at c.in_ok-read_group.ensures)),
+      read _ _ _ _ _ more.0 more.1 more.2 _ (ahead_is a.self.now a.store.now a.j inside _ (rw c.get.ensures.same at c.in_ok-read_group.ensures.answer)),
       search rules,
     )
