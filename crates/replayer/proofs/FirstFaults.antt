@@ -1,5 +1,5 @@
 -- A group is refused exactly for its first fault, and read exactly as it stands in its log; and so says a step.
-use Rattle.std.proofs.Common.{◌≡◌, ℕ, zero, suc, ◌+◌, ◌-◌, ◌*◌, ◌<◌, ◌≤◌, Bool, true, false, cond, ◌&&◌, ltb, leb, List, [], ◌∷◌, ◌++◌, map, length, get_or, take, drop, Some, None, Ok, Err, Option, Result, sym, refl, ap, ◌∙◌, subst, Fits, w8, arith}
+use Rattle.std.proofs.Common.{◌≡◌, ℕ, suc, ◌+◌, ◌*◌, ◌<◌, ◌≤◌, Bool, true, false, cond, ◌&&◌, ltb, leb, List, [], ◌∷◌, ◌++◌, length, get_or, drop, Some, None, Ok, Err, Option, Result, sym, refl, ap, ◌∙◌, subst, Fits, w8, arith}
 use Rattle.std.specs.List.{AllByRecursion}
 use Rattle.std.proofs.lemmas.Bool.{and_from, and_parts, lt-ltb, lt-leb, le-leb, leb-true, leb-false, cond-true, cond-false}
 use Rattle.cores.specs.declared.interface.Request.{Request}
@@ -11,15 +11,15 @@ use Rattle.records.specs.declared.settings.Heading.{Heading}
 use Rattle.records.specs.declared.settings.Sizes.{Sizes}
 use Rattle.records.specs.Faults.{Fault, bad_setting, log_fault}
 use Rattle.records.specs.Format.{LogArc}
-use Rattle.records.specs.Settings.{fits, log_of, heading_of, settled}
+use Rattle.records.specs.Settings.{fits, log_of, heading_of}
 use Rattle.logs.specs.Lawful.{Within}
 use Rattle.logs.proofs.Bytes.{octets_take, octets_drop}
 use Rattle.logs.proofs.Sessions.{bytes_octets}
 use Rattle.replayer.specs.declared.group.Group.{Group}
 use Rattle.replayer.specs.declared.replay.Replayer.{Replayer}
 use Rattle.replayer.specs.Damaged.{StepsNameFirstFaults}
-use Rattle.replayer.specs.GroupFaults.{behind, ArcsThere, EndsAt, GroupBroken, FirstWait, all_done, first_waits, GroupRead, GroupExactly, GroupsReadExactly}
-use Rattle.replayer.specs.Groups.{arc_seen, at_place, Grouped, group, group_at, is_done, source_of, waits_for, held_up, read_group}
+use Rattle.replayer.specs.GroupFaults.{behind, GroupBroken, FirstWait, all_done, first_waits, GroupRead, GroupExactly, GroupsReadExactly}
+use Rattle.replayer.specs.Groups.{Grouped, group_at, source_of, waits_for, held_up, read_group}
 use Rattle.replayer.specs.Steps.{behind_head, Outcome, freed, passed, cleared, refused, acted, gone, stepped}
 use Rattle.replayer.proofs.GroupFaults.{Groups, grouped, faulted, groups, read_there, broken_there}
 

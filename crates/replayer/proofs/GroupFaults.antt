@@ -1,7 +1,7 @@
 -- Reading a core's group over any bytes: what is seen at each place is a record that may stand there or what breaks a rule, so the whole is the group that stands there or its first fault.
-use Rattle.std.proofs.Common.{◌≡◌, ◌≢◌, ℕ, zero, suc, ◌+◌, ◌-◌, ◌<◌, ◌≤◌, Bool, true, false, not, cond, ◌&&◌, eqb, ltb, leb, List, [], ◌∷◌, ◌++◌, map, length, get_or, drop, set, Some, None, Ok, Err, Option, Result, sym, refl, ap, ◌∙◌, subst, arith}
+use Rattle.std.proofs.Common.{◌≡◌, ℕ, zero, suc, ◌+◌, ◌-◌, ◌<◌, ◌≤◌, Bool, true, false, not, cond, ◌&&◌, eqb, ltb, leb, List, [], ◌∷◌, ◌++◌, map, length, get_or, drop, set, Some, None, Ok, Err, Result, sym, refl, ap, ◌∙◌, subst, arith}
 use Rattle.std.specs.List.{AllByRecursion}
-use Rattle.std.proofs.lemmas.List.{drop-drop, drop_at, append_assoc, length-append, length-drop}
+use Rattle.std.proofs.lemmas.List.{drop-drop, append_assoc, length-drop}
 use Rattle.std.proofs.lemmas.Bool.{and_from, and_parts, eq-eqb, ne_eqb, eqb-true, eqb-false, lt-ltb, le-ltb, ltb-true, ltb-false, le-leb, leb-true, not-true, cond-true, cond-false}
 use Rattle.records.specs.declared.reading.SavedPlace.{SavedPlace}
 use Rattle.records.specs.declared.reading.State.{State}
@@ -10,9 +10,9 @@ use Rattle.records.specs.declared.settings.Heading.{Heading}
 use Rattle.records.specs.Faults.{Fault}
 use Rattle.records.specs.Format.{LogArc, Entry, head, arc, end, bytes_of, written}
 use Rattle.records.specs.Reading.{broken, marked, entry_at, arc_stands, one_more, resumed, passed, judged, held_at}
-use Rattle.logs.specs.Lawful.{Stands, Within, Marks, head_mark, arc_mark, end_mark, Breaks, no_mark, cut, unknown_mark, no_head, head_later, bad_arc, bad_end}
+use Rattle.logs.specs.Lawful.{Marks, head_mark, arc_mark, end_mark, Breaks, no_mark, cut, unknown_mark, no_head, head_later, bad_arc, bad_end}
 use Rattle.logs.proofs.Bytes.{octets_drop, read_back, written_back, unread}
-use Rattle.replayer.specs.GroupFaults.{MayStand, MayEnd, behind, InTurn, ArcsThere, BreaksAt, no_record, head_there, arc_may_not, end_may_not, from_beyond, EndsAt, other_arc, log_end, GroupBroken}
+use Rattle.replayer.specs.GroupFaults.{MayStand, MayEnd, behind, ArcsThere, BreaksAt, no_record, head_there, arc_may_not, end_may_not, from_beyond, EndsAt, other_arc, log_end, GroupBroken}
 use Rattle.replayer.specs.Groups.{ArcSight, arc_of, arc_seen, at_place, past, Grouped, none_at, joined, picked, group}
 
 -- the reader's tests say what may stand at a place
