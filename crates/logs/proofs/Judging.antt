@@ -73,13 +73,13 @@ module _ (g : Heading) (log : List ℕ) where
       )
 
 -- the number of arcs that an end record read from bytes can say
-end_small : (core at : ℕ) (bs : List ℕ) (n k : ℕ) → AllByRecursion (λ b. b < 256) bs → entry_at core at bs ≡ Ok (end n k) → k < 65536
+pub end_small : (core at : ℕ) (bs : List ℕ) (n k : ℕ) → AllByRecursion (λ b. b < 256) bs → entry_at core at bs ≡ Ok (end n k) → k < 65536
 end_small core at bs n k o q =
     let h = subst (AllByRecursion (λ b. b < 256)) (written_back core at bs (end n k) o q) o in
     let high : k / 256 < 256 = h.1.1.1.1.0 in
     omega arith
 
-bad_ending : (xs : List LogArc) (last : ℕ) (latest : List ℕ) (m n k : ℕ) → Knows xs last latest m → k < 65536 → (b₁ : Bool) → eqb m k ≡ b₁ → (b₂ : Bool) → leb last n ≡ b₂ → (b₁ && b₂) ≡ false → BadEnd xs n k
+pub bad_ending : (xs : List LogArc) (last : ℕ) (latest : List ℕ) (m n k : ℕ) → Knows xs last latest m → k < 65536 → (b₁ : Bool) → eqb m k ≡ b₁ → (b₂ : Bool) → leb last n ≡ b₂ → (b₁ && b₂) ≡ false → BadEnd xs n k
 bad_ending xs last latest m n k w small false q₁ b₂ q₂ h = wrong_arcs (λ e. eqb-false m k q₁ (omega (arith, w.number)))
 bad_ending xs last latest m n k w small true q₁ false q₂ h =
     let low = leb-false last n q₂ in

@@ -15,9 +15,14 @@ use Rattle.logs.proofs.Bytes.{octets_drop, read_back, written_back, unread}
 use Rattle.replayer.specs.GroupFaults.{MayStand, MayEnd, behind, ArcsThere, BreaksAt, no_record, head_there, arc_may_not, end_may_not, from_beyond, EndsAt, other_arc, log_end, GroupBroken}
 use Rattle.replayer.specs.Groups.{ArcSight, arc_of, arc_seen, at_place, past, Grouped, none_at, joined, picked, group}
 
+-- the place behind arcs stands behind their bytes
+pub behind_offset : (p : SavedPlace) (arcs : List LogArc) → (behind p arcs).offset ≡ p.offset + length (written (map arc arcs))
+behind_offset p [] = omega arith
+behind_offset p (a ∷ arcs) = omega (arith, behind_offset (past p (arc a)) arcs)
+
 -- the reader's tests say what may stand at a place
 module _ (g : Heading) (p : SavedPlace) where
-  may_stand : (a : LogArc) → arc_stands g p.last p.latest a.source a.count a.target ≡ true → MayStand g p a
+  pub may_stand : (a : LogArc) → arc_stands g p.last p.latest a.source a.count a.target ≡ true → MayStand g p a
   may_stand a e =
       let p₁ = and_parts (ltb a.source g.cores) _ e in
       let p₂ = and_parts (not (eqb a.source g.core)) _ p₁.1 in
@@ -35,7 +40,7 @@ module _ (g : Heading) (p : SavedPlace) where
         once = eqb-false (get_or p.latest a.source 0) a.target (not-true _ p₅.1);
       }
 
-  stands_may : (a : LogArc) → MayStand g p a → arc_stands g p.last p.latest a.source a.count a.target ≡ true
+  pub stands_may : (a : LogArc) → MayStand g p a → arc_stands g p.last p.latest a.source a.count a.target ≡ true
   stands_may a m =
       and_from (ltb a.source g.cores) _ (lt-ltb a.source g.cores m.stands.core)
       (and_from (not (eqb a.source g.core)) _ (ap not (ne_eqb a.source g.core m.stands.other))
@@ -44,7 +49,7 @@ module _ (g : Heading) (p : SavedPlace) where
       (and_from (leb p.last a.target) _ (le-leb p.last a.target m.order)
       (ap not (ne_eqb (get_or p.latest a.source 0) a.target m.once))))))
 
-  may_end : (n k : ℕ) → (eqb p.arcs k && leb p.last n) ≡ true → MayEnd p n k
+  pub may_end : (n k : ℕ) → (eqb p.arcs k && leb p.last n) ≡ true → MayEnd p n k
   may_end n k e =
       let q = and_parts (eqb p.arcs k) _ e in
       record { number = sym (eqb-true p.arcs k q.0); reached = leb-true p.last n q.1 }
@@ -53,7 +58,7 @@ module _ (g : Heading) (p : SavedPlace) where
   end_may n k m = and_from (eqb p.arcs k) _ (eq-eqb p.arcs k (sym m.number)) (le-leb p.last n m.reached)
 
 -- a test that is not passed fails
-refuted : (b : Bool) → (b ≡ true → ⊥) → b ≡ false
+pub refuted : (b : Bool) → (b ≡ true → ⊥) → b ≡ false
 refuted true h = absurd (h refl)
 refuted false h = refl
 
@@ -302,10 +307,6 @@ module _ (counts : List ℕ) (g : Heading) (log : List ℕ) (octets : AllByRecur
     read_there f p h arcs rest w e =
         reads_through arcs rest f p h w (Ok (none_at (behind p arcs))) (ends_there (behind p arcs) (subst (EndsAt counts g t (behind p arcs)) (sym (there_rest p arcs rest w)) e))
         ∙ joined_none arcs (behind p arcs)
-
-    behind_offset : (p : SavedPlace) (arcs : List LogArc) → (behind p arcs).offset ≡ p.offset + length (written (map arc arcs))
-    behind_offset p [] = omega arith
-    behind_offset p (a ∷ arcs) = omega (arith, behind_offset (past p (arc a)) arcs)
 
     pub broken_there : (f : ℕ) (p : SavedPlace) → length log - p.offset < f → (d : Fault) → GroupBroken counts g log t p d → reads f p ≡ Err d
     broken_there f p h d b =

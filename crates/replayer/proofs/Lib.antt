@@ -8,3 +8,4 @@ pub mod Following
 pub mod Memories
 pub mod GroupFaults
 pub mod FirstFaults
+pub mod Damaged

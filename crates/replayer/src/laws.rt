@@ -1,4 +1,4 @@
-ghost use Rattle.replayer.specs.Damaged.{StepsNameFirstFaults};
+ghost use Rattle.replayer.specs.Damaged.{StepsNameFirstFaults, GroupFaultsAreFirst, StepsNameTheLogsFirstFaults};
 ghost use Rattle.replayer.specs.Following.{OpeningFollows, StepReads, StepWaits, StepsFollow, RunsFollow};
 ghost use Rattle.replayer.specs.GroupFaults.{GroupsReadExactly};
 ghost use Rattle.replayer.specs.Runs.{RunsStopExactly};
@@ -15,10 +15,13 @@ pub fn replays_follow_their_logs()
 {}
 
 // Holds the laws of damaged logs: over any bytes, a group is refused exactly for its first fault and read exactly as it
-// stands in its log, and a step names a fault exactly if it is the first of its core's group.
+// stands in its log, and a step names a fault exactly if it is the first of its core's group. Where the core's log is
+// intact up to the core's place, that is the first fault of the whole log.
 pub fn steps_name_first_faults()
     ensures groups { GroupsReadExactly }
     ensures steps { StepsNameFirstFaults }
+    ensures first { GroupFaultsAreFirst }
+    ensures log { StepsNameTheLogsFirstFaults }
 {}
 
 // Holds the law that a run stops exactly if, where it ends, something is left and no core's step is carried out.
