@@ -168,12 +168,12 @@ module _
 pub steps_name_first_faults : StepsNameFirstFaults
 unfolding stepped cleared
 steps_name_first_faults next after text R cells states store j octets ready known more = (
-      (λ f. (
-        (λ q. ((exact.faulty f).0 (goes_says next after text R cells states j _ f (sym (ap (λ o. o.says) is) ∙ q))).1),
-        (λ b. ap (λ o. o.says) (is ∙ ap (goes next after text R cells states j) ((exact.faulty f).1 (inside, b)))),
-      )),
-      (λ x r. is ∙ ap (goes next after text R cells states j) ((exact.read x).1 (inside, r))),
-    )
+  (λ f. (
+    (λ q. ((exact.faulty f).0 (goes_says next after text R cells states j _ f (sym (ap (λ o. o.says) is) ∙ q))).1),
+    (λ b. ap (λ o. o.says) (is ∙ ap (goes next after text R cells states j) ((exact.faulty f).1 (inside, b)))),
+  )),
+  (λ x r. is ∙ ap (goes next after text R cells states j) ((exact.read x).1 (inside, r))),
+)
   where
     p : SavedPlace
     p = get_or R.places j behind_head
