@@ -206,10 +206,11 @@ intact counts g log now body n d p o s T same = record {
         omega (arith, ap (λ p. p.offset) place, behind_offset behind_head (arcs_in T.front), ap (λ x. length (written x)) (map_arcs T.front between))
 
 pub steps_name_the_logs_first_faults : StepsNameTheLogsFirstFaults
-steps_name_the_logs_first_faults next after text R cells states store now bodies j F octets ready known more same f q =
+steps_name_the_logs_first_faults next after text R cells states store now bodies j F octets same f q =
     let z = R.sizes in
     let p = get_or R.places j behind_head in
     let d = get_or R.done j 0 in
+    let b = ((steps_name_first_faults next after text R cells states now j octets).0.faulty f).0 q in
+    let known = b.0.known in
     group_faults_are_first R.counts (heading_of z j) (log_of now z j) (d + 1) p f (log_octets now z j octets) (few_cores (length store) z F.fits)
-    (intact R.counts (heading_of z j) (log_of store z j) (log_of now z j) (bodies j) (get_or R.counts j 0) d p (F.holds j known) (F.sources j known) (F.places j known) same)
-    (((steps_name_first_faults next after text R cells states now j octets ready known more).0 f).0 q)
+    (intact R.counts (heading_of z j) (log_of store z j) (log_of now z j) (bodies j) (get_or R.counts j 0) d p (F.holds j known) (F.sources j known) (F.places j known) same) b.1

@@ -11,16 +11,17 @@ use Rattle.records.specs.declared.settings.Heading.{Heading}
 use Rattle.records.specs.declared.settings.Sizes.{Sizes}
 use Rattle.records.specs.Faults.{Fault, bad_setting, log_fault}
 use Rattle.records.specs.Format.{LogArc}
-use Rattle.records.specs.Settings.{fits, log_of, heading_of}
+use Rattle.records.specs.Settings.{fits, log_of, heading_of, settled}
 use Rattle.logs.specs.Lawful.{Within}
 use Rattle.logs.proofs.Bytes.{octets_take, octets_drop}
 use Rattle.logs.proofs.Sessions.{bytes_octets}
 use Rattle.replayer.specs.declared.group.Group.{Group}
 use Rattle.replayer.specs.declared.replay.Replayer.{Replayer}
-use Rattle.replayer.specs.Damaged.{StepsNameFirstFaults}
+use Rattle.replayer.specs.Answers.{wait_numbers}
+use Rattle.replayer.specs.Damaged.{HasLeft, ReadAhead, StepExactly, StepsNameFirstFaults}
 use Rattle.replayer.specs.GroupFaults.{behind, GroupBroken, FirstWait, all_done, first_waits, GroupRead, GroupExactly, GroupsReadExactly}
 use Rattle.replayer.specs.Groups.{Grouped, group_at, source_of, waits_for, held_up, read_group}
-use Rattle.replayer.specs.Steps.{behind_head, Outcome, freed, passed, cleared, refused, acted, gone, stepped}
+use Rattle.replayer.specs.Steps.{behind_head, Outcome, ahead, freed, passed, cleared, refused, acted, gone, stepped}
 use Rattle.replayer.proofs.GroupFaults.{Groups, grouped, faulted, groups, read_there, broken_there}
 
 -- what is waited for is the first source that is not done
@@ -141,7 +142,14 @@ pub group_says_exactly : (store : List ℕ) (z : Sizes) (j : ℕ) (p : SavedPlac
 group_says_exactly store z j p counts done says fits q =
     subst (GroupExactly store z j p counts done) (sym q) (groups_read_exactly store z j p counts done (bytes_octets store fits))
 
--- what a step says of a core that has an instruction left
+-- a refused group says no number but 8 and 9
+refused_says : (b : Bool) (done : List ℕ) (x : Result Grouped Fault) (k : ℕ) (says more : List ℕ) → says ≡ k ∷ more → (k ≡ 8 → ⊥) → (k ≡ 9 → ⊥) →
+    cond b (held_up done None x) (Err bad_setting) ≡ Err says → ⊥
+refused_says true done (Ok x) k says more e n₁ n₂ q = absurd cc
+refused_says true done (Err f) k says more e n₁ n₂ q = let z : k ≡ 9 = cc in n₂ z
+refused_says false done x k says more e n₁ n₂ q = let z : k ≡ 8 = cc in n₁ z
+
+-- a step
 module _
     (next : List ℕ → List ℕ → Request) (after : List ℕ → List ℕ → ℕ → List ℕ)
     (text : List ℕ) (R : Replayer) (cells : List ℕ) (states : List (List ℕ)) (j : ℕ)
@@ -149,42 +157,103 @@ module _
     abbrev goes : Result Group (List ℕ) → Outcome
     goes x = gone next after text R cells states j (passed x)
 
-    -- only a group that is refused for a fault makes it name one
-    asks_says : (request : Request) (a b : Bool) (place : SavedPlace) (f : Fault) →
-        (cond a (acted next after text R cells states j place request) (cond b (refused next after text R cells states (2 ∷ [])) (refused next after text R cells states (4 ∷ [])))).says ≡ log_fault f → ⊥
-    asks_says request true b place f q = let z : ◌≡◌ {A = ℕ} 0 9 = cc in absurd (omega (arith, z))
-    asks_says request false true place f q = let z : ◌≡◌ {A = ℕ} 2 9 = cc in absurd (omega (arith, z))
-    asks_says request false false place f q = let z : ◌≡◌ {A = ℕ} 4 9 = cc in absurd (omega (arith, z))
+    -- where nothing is waited for it says 0, 2 or 4
+    asks_says : (request : Request) (a b : Bool) (place : SavedPlace) (k : ℕ) (more : List ℕ) →
+        (cond a (acted next after text R cells states j place request) (cond b (refused next after text R cells states (2 ∷ [])) (refused next after text R cells states (4 ∷ [])))).says ≡ k ∷ more →
+        k ≤ 4
+    asks_says request true b place k more q = let z : ◌≡◌ {A = ℕ} 0 k = cc in omega (arith, z)
+    asks_says request false true place k more q = let z : ◌≡◌ {A = ℕ} 2 k = cc in omega (arith, z)
+    asks_says request false false place k more q = let z : ◌≡◌ {A = ℕ} 4 k = cc in omega (arith, z)
 
-    freed_says : (w : Option Source) (place : SavedPlace) (f : Fault) → (gone next after text R cells states j (freed w place)).says ≡ log_fault f → ⊥
-    freed_says (Some s) place f q = let z : ◌≡◌ {A = ℕ} 6 9 = cc in absurd (omega (arith, z))
-    freed_says None place f q =
-        asks_says (next text (get_or states j [])) (able (next text (get_or states j [])) R.sizes.cells) (cells_within (next text (get_or states j [])) R.sizes.cells) place f q
+    free_says : (place : SavedPlace) (k : ℕ) (more : List ℕ) → (gone next after text R cells states j (Ok place)).says ≡ k ∷ more → k ≤ 4
+    free_says place k more q =
+        let request = next text (get_or states j []) in
+        asks_says request (able request R.sizes.cells) (cells_within request R.sizes.cells) place k more q
 
-    goes_says : (x : Result Group (List ℕ)) (f : Fault) → (goes x).says ≡ log_fault f → x ≡ Err (log_fault f)
-    goes_says (Ok x) f q = absurd (freed_says x.waits x.place f q)
-    goes_says (Err says) f q = ap Err q
+    -- it names a fault only for a refused group, and waits only for what a group waits for
+    fault_says : (x : Result Group (List ℕ)) (f : Fault) → (goes x).says ≡ log_fault f → x ≡ Err (log_fault f)
+    fault_says (Err says) f q = ap Err q
+    fault_says (Ok x) f q = absurd (of_wait x.waits q)
+      where
+        of_wait : (w : Option Source) → (gone next after text R cells states j (freed w x.place)).says ≡ log_fault f → ⊥
+        of_wait (Some s) q = let z : ◌≡◌ {A = ℕ} 6 9 = cc in absurd (omega (arith, z))
+        of_wait None q = let h = free_says x.place 9 _ q in omega (arith, h)
+
+    wait_says : (x : Result Group (List ℕ)) (s : Source) → ((says : List ℕ) → x ≡ Err says → says ≡ wait_numbers s → ⊥) → (goes x).says ≡ wait_numbers s →
+        (y : Group) × (x ≡ Ok y) × (y.waits ≡ Some s)
+    wait_says (Err says) s never q = absurd (never says refl q)
+    wait_says (Ok x) s never q = (x, refl, of_wait x.waits q)
+      where
+        of_wait : (w : Option Source) → (gone next after text R cells states j (freed w x.place)).says ≡ wait_numbers s → w ≡ Some s
+        of_wait (Some r) q =
+            let core : r.core ≡ s.core = cc in
+            let count : r.count ≡ s.count = cc in
+            λ i. Some (record { core = core i; count = count i })
+        of_wait None q = let h = free_says x.place 6 _ q in absurd (omega (arith, h))
+
+    module _ (store : List ℕ) where
+      abbrev Left : Type 0
+      Left = HasLeft R (length states) (length cells) (length store) j
+
+      abbrev read : Result Group (List ℕ)
+      read = ahead R store j
+
+      -- a core with an instruction left reads its group
+      reads : Left → stepped next after text R cells states store j ≡ goes read
+      unfolding stepped cleared
+      reads h =
+          ap (gone next after text R cells states j) (cond-true _ _ _ h.settled ∙ cond-false _ _ _ (lt-leb R.sizes.cores j h.known)
+          ∙ cond-false _ _ _ (lt-leb (get_or R.counts j 0) (get_or R.done j 0) h.left))
+
+      -- and others say 8, 1 or 7
+      has_left : (k : ℕ) (more : List ℕ) → (k ≡ 8 → ⊥) → (k ≡ 1 → ⊥) → (k ≡ 7 → ⊥) → (stepped next after text R cells states store j).says ≡ k ∷ more → Left
+      unfolding stepped cleared
+      has_left k more n₁ n₂ n₃ q =
+          by_tests (settled R.sizes (length states) (length cells) (length store)) refl (leb R.sizes.cores j) refl (leb (get_or R.counts j 0) (get_or R.done j 0)) refl q
+        where
+          by_tests : (b₁ : Bool) → settled R.sizes (length states) (length cells) (length store) ≡ b₁ → (b₂ : Bool) → leb R.sizes.cores j ≡ b₂ →
+              (b₃ : Bool) → leb (get_or R.counts j 0) (get_or R.done j 0) ≡ b₃ →
+              (gone next after text R cells states j (cond b₁ (cond b₂ (Err (1 ∷ [])) (cond b₃ (Err (7 ∷ [])) (passed read))) (Err bad_setting))).says ≡ k ∷ more → Left
+          by_tests false t₁ b₂ t₂ b₃ t₃ q = absurd (let z : k ≡ 8 = cc in n₁ z)
+          by_tests true t₁ true t₂ b₃ t₃ q = absurd (let z : k ≡ 1 = cc in n₂ z)
+          by_tests true t₁ false t₂ true t₃ q = absurd (let z : k ≡ 7 = cc in n₃ z)
+          by_tests true t₁ false t₂ false t₃ q = record {
+            settled = t₁;
+            known = leb-false R.sizes.cores j t₂;
+            left = leb-false (get_or R.counts j 0) (get_or R.done j 0) t₃;
+          }
+
+      inside : Left → (fits (length store) R.sizes && ltb j R.sizes.cores) ≡ true
+      inside h = and_from (fits (length store) R.sizes) (ltb j R.sizes.cores) (and_parts (fits (length store) R.sizes) _ h.settled).0 (lt-ltb j R.sizes.cores h.known)
+
+      never_waits : (s : Source) (says : List ℕ) → read ≡ Err says → says ≡ wait_numbers s → ⊥
+      unfolding read_group
+      never_waits s says q e = refused_says (fits (length store) R.sizes && ltb j R.sizes.cores) R.done _ 6 says _ e (λ z. omega (arith, z)) (λ z. omega (arith, z)) q
+
+      module _ (octets : AllByRecursion (λ b. b < 256) store) where
+        exact : GroupExactly store R.sizes j (get_or R.places j behind_head) R.counts R.done read
+        exact = groups_read_exactly store R.sizes j (get_or R.places j behind_head) R.counts R.done octets
+
+        goes_on : (x : Group) → Left → ReadAhead R store j x → stepped next after text R cells states store j ≡ gone next after text R cells states j (freed x.waits x.place)
+        goes_on x h r = reads h ∙ ap goes ((exact.read x).1 (inside h, r))
+
+        step_exactly : StepExactly R (length states) (length cells) store j (stepped next after text R cells states store j).says
+        step_exactly = record {
+          faulty = λ f. (
+            (λ q.
+            let h = has_left 9 _ (λ z. omega (arith, z)) (λ z. omega (arith, z)) (λ z. omega (arith, z)) q in
+            (h, ((exact.faulty f).0 (fault_says read f (sym (ap (λ o. o.says) (reads h)) ∙ q))).1)),
+            (λ b. ap (λ o. o.says) (reads b.0 ∙ ap goes ((exact.faulty f).1 (inside b.0, b.1)))),
+          );
+          waits = λ s. (
+            (λ q.
+            let h = has_left 6 _ (λ z. omega (arith, z)) (λ z. omega (arith, z)) (λ z. omega (arith, z)) q in
+            let w = wait_says read s (never_waits s) (sym (ap (λ o. o.says) (reads h)) ∙ q) in
+            (h, (w.0, ((exact.read w.0).0 w.1).1, w.2))),
+            (λ b. ap (λ o. o.says) (goes_on b.1.0 b.0 b.1.1 ∙ ap (λ w. gone next after text R cells states j (freed w b.1.0.place)) b.1.2)),
+          );
+        }
 
 pub steps_name_first_faults : StepsNameFirstFaults
-unfolding stepped cleared
-steps_name_first_faults next after text R cells states store j octets ready known more = (
-  (λ f. (
-    (λ q. ((exact.faulty f).0 (goes_says next after text R cells states j _ f (sym (ap (λ o. o.says) is) ∙ q))).1),
-    (λ b. ap (λ o. o.says) (is ∙ ap (goes next after text R cells states j) ((exact.faulty f).1 (inside, b)))),
-  )),
-  (λ x r. is ∙ ap (goes next after text R cells states j) ((exact.read x).1 (inside, r))),
-)
-  where
-    p : SavedPlace
-    p = get_or R.places j behind_head
-
-    inside : (fits (length store) R.sizes && ltb j R.sizes.cores) ≡ true
-    inside = and_from (fits (length store) R.sizes) (ltb j R.sizes.cores) (and_parts (fits (length store) R.sizes) _ ready).0 (lt-ltb j R.sizes.cores known)
-
-    exact : GroupExactly store R.sizes j p R.counts R.done (read_group store R.sizes j p R.counts R.done)
-    exact = groups_read_exactly store R.sizes j p R.counts R.done octets
-
-    is : stepped next after text R cells states store j ≡ goes next after text R cells states j (read_group store R.sizes j p R.counts R.done)
-    is =
-        ap (gone next after text R cells states j) (cond-true _ _ _ ready ∙ cond-false _ _ _ (lt-leb R.sizes.cores j known)
-        ∙ cond-false _ _ _ (lt-leb (get_or R.counts j 0) (get_or R.done j 0) more))
+steps_name_first_faults next after text R cells states store j octets =
+    (step_exactly next after text R cells states j store octets, goes_on next after text R cells states j store octets)

@@ -1,7 +1,8 @@
 -- Steps over damaged logs: what a step says of a core with an instruction left, whatever bytes the store has by then.
-use Rattle.std.specs.Prelude.{◌≡◌, ℕ, ◌+◌, ◌<◌, ◌≤◌, true, ◌↔◌, List, [], ◌∷◌, ◌++◌, length, take, slice_index, slice_index_or}
+use Rattle.std.specs.Prelude.{◌≡◌, ℕ, ◌+◌, ◌<◌, ◌≤◌, true, ◌↔◌, List, [], ◌∷◌, ◌++◌, length, take, Some, slice_index, slice_index_or}
 use Rattle.std.specs.List.{AllByRecursion}
 use Rattle.cores.specs.declared.interface.Request.{Request}
+use Rattle.records.specs.declared.format.Source.{Source}
 use Rattle.records.specs.declared.reading.SavedPlace.{SavedPlace}
 use Rattle.records.specs.declared.settings.Heading.{Heading}
 use Rattle.records.specs.Faults.{Fault, log_fault}
@@ -11,27 +12,48 @@ use Rattle.records.specs.Settings.{log_of, heading_of, settled}
 use Rattle.logs.specs.Lawful.{arcs_in, front, Body, Broken, Within}
 use Rattle.replayer.specs.declared.group.Group.{Group}
 use Rattle.replayer.specs.declared.replay.Replayer.{Replayer}
+use Rattle.replayer.specs.Answers.{wait_numbers}
 use Rattle.replayer.specs.Following.{Follows}
 use Rattle.replayer.specs.GroupFaults.{GroupBroken, GroupRead}
 use Rattle.replayer.specs.Groups.{past_all}
 use Rattle.replayer.specs.Steps.{Outcome, behind_head, freed, gone, stepped}
 
--- a step names a fault exactly if it is the first of the core's group; where the group is read, the core
--- goes on behind its arcs, or waits for the first of them whose source is not done
+-- core j has a recorded instruction left, and the sizes fit the buffers
+pub record HasLeft (R : Replayer) (cores cells bytes j : ℕ) : Type 0 where
+  pub settled : settled R.sizes cores cells bytes ≡ true
+  pub known : j < R.sizes.cores
+  pub left : slice_index R.done j < slice_index R.counts j
+
+-- what stands ahead of core j in its log: a first fault, or a group
+module _ (R : Replayer) (store : List ℕ) (j : ℕ) where
+  abbrev pub BrokenAhead : Fault → Type 0
+  BrokenAhead f =
+      GroupBroken R.counts (heading_of R.sizes j) (log_of store R.sizes j) (slice_index R.done j + 1)
+      (slice_index_or R.places j behind_head) f
+
+  abbrev pub ReadAhead : Group → Type 0
+  ReadAhead x =
+      GroupRead R.counts (heading_of R.sizes j) (log_of store R.sizes j) (slice_index R.done j + 1)
+      (slice_index_or R.places j behind_head) R.done x
+
+-- what a step of core j may say of its log, in words: it names a fault exactly if the core has an instruction
+-- left and the fault stands ahead of it first, and waits for a source exactly if that is what its group waits for
+pub record StepExactly (R : Replayer) (cores cells : ℕ) (store : List ℕ) (j : ℕ) (says : List ℕ) : Type 0 where
+  pub faulty : (f : Fault) →
+      (says ≡ log_fault f) ↔ (HasLeft R cores cells (length store) j × BrokenAhead R store j f)
+  pub waits : (s : Source) →
+      (says ≡ wait_numbers s)
+      ↔ (HasLeft R cores cells (length store) j × ((x : Group) × ReadAhead R store j x × (x.waits ≡ Some s)))
+
+-- so says every step, over any bytes; and where a group is read that waits for nothing, the core goes on behind it
 abbrev pub StepsNameFirstFaults : Type 0
 StepsNameFirstFaults =
     (next : List ℕ → List ℕ → Request) (after : List ℕ → List ℕ → ℕ → List ℕ)
     (text : List ℕ) (R : Replayer) (cells : List ℕ) (states : List (List ℕ)) (store : List ℕ) (j : ℕ) →
     AllByRecursion (λ b. b < 256) store →
-    settled R.sizes (length states) (length cells) (length store) ≡ true →
-    j < R.sizes.cores → slice_index R.done j < slice_index R.counts j →
-    let g : Heading = heading_of R.sizes j in
-    let log : List ℕ = log_of store R.sizes j in
-    let t : ℕ = slice_index R.done j + 1 in
-    let p : SavedPlace = slice_index_or R.places j behind_head in
     let o : Outcome = stepped next after text R cells states store j in
-    ((f : Fault) → (o.says ≡ log_fault f) ↔ GroupBroken R.counts g log t p f)
-    × ((x : Group) → GroupRead R.counts g log t p R.done x →
+    StepExactly R (length states) (length cells) store j o.says
+    × ((x : Group) → HasLeft R (length states) (length cells) (length store) j → ReadAhead R store j x →
     o ≡ gone next after text R cells states j (freed x.waits x.place))
 
 -- a log up to a place in it: a head, and arcs that obey the rules and come from within; behind them stands anything
@@ -68,8 +90,6 @@ StepsNameTheLogsFirstFaults =
     (text : List ℕ) (R : Replayer) (cells : List ℕ) (states : List (List ℕ))
     (store now : List ℕ) (bodies : ℕ → List Entry) (j : ℕ) →
     Follows store bodies R → AllByRecursion (λ b. b < 256) now →
-    settled R.sizes (length states) (length cells) (length now) ≡ true →
-    j < R.sizes.cores → slice_index R.done j < slice_index R.counts j →
     let passed : ℕ = (slice_index_or R.places j behind_head).offset in
     take passed (log_of now R.sizes j) ≡ take passed (log_of store R.sizes j) →
     (f : Fault) → (stepped next after text R cells states now j).says ≡ log_fault f →
