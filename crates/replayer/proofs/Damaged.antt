@@ -1,7 +1,7 @@
 -- Over a log that is intact up to a place, what breaks a rule in a group breaks it in the whole log.
-use Rattle.std.proofs.Common.{◌≡◌, ℕ, ◌+◌, ◌<◌, ◌≤◌, true, ◌&&◌, eqb, leb, List, [], ◌∷◌, ◌++◌, map, length, get_or, take, drop, Ok, sym, refl, ap, ◌∙◌, subst, inl, inr, arith}
+use Rattle.std.proofs.Common.{◌≡◌, ℕ, ◌+◌, ◌<◌, ◌≤◌, eqb, leb, List, [], ◌∷◌, ◌++◌, map, length, get_or, take, drop, sym, refl, ap, ◌∙◌, subst, inl, inr, arith}
 use Rattle.std.specs.List.{AllByRecursion}
-use Rattle.std.proofs.lemmas.Bool.{and_parts, cases_lt}
+use Rattle.std.proofs.lemmas.Bool.{cases_lt}
 use Rattle.std.proofs.lemmas.List.{drop_at, take_at, take-append-drop, append_assoc, append-nil, length-append}
 use Rattle.records.specs.declared.reading.SavedPlace.{SavedPlace}
 use Rattle.records.specs.declared.settings.Heading.{Heading}
@@ -9,15 +9,14 @@ use Rattle.records.specs.Faults.{Fault}
 use Rattle.records.specs.Format.{LogArc, Entry, head, arc, end, bytes_of, written}
 use Rattle.records.specs.Reading.{broken, entry_at}
 use Rattle.records.specs.Settings.{log_of, heading_of}
-use Rattle.logs.specs.Lawful.{Between, Behind, Lawful, Body, Within, arcs_in, front, whole, Breaks, no_mark, cut, unknown_mark, no_head, head_later, bad_arc, bad_end, BadArc, BadEnd, Holds}
+use Rattle.logs.specs.Lawful.{Between, Behind, Lawful, Body, Within, arcs_in, front, Breaks, no_mark, cut, unknown_mark, no_head, head_later, bad_arc, bad_end, BadArc, BadEnd, Holds}
 use Rattle.logs.proofs.Arcs.{all_append, arcs_append, arcs_between, arcs_more}
 use Rattle.logs.proofs.Bytes.{octets_drop, read_back}
 use Rattle.logs.proofs.Judging.{written_append, end_small, bad_ending}
 use Rattle.logs.proofs.Rules.{Knows, knows_none, knows_push, stands_follows, fails_breaks, lawful_push, lawful_at, never_both}
 use Rattle.logs.proofs.Sessions.{few_cores}
-use Rattle.replayer.specs.declared.replay.Replayer.{Replayer}
 use Rattle.replayer.specs.Damaged.{IntactTo, FirstInLog, by_rule, by_source, GroupFaultsAreFirst, StepsNameTheLogsFirstFaults}
-use Rattle.replayer.specs.Following.{Stands, Follows}
+use Rattle.replayer.specs.Following.{Stands}
 use Rattle.replayer.specs.GroupFaults.{behind, InTurn, BreaksAt, no_record, head_there, arc_may_not, end_may_not, from_beyond, GroupBroken}
 use Rattle.replayer.specs.Groups.{past, past_all}
 use Rattle.replayer.specs.Steps.{behind_head}

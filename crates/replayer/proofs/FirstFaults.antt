@@ -1,6 +1,7 @@
 -- A group is refused exactly for its first fault, and read exactly as it stands in its log; and so says a step.
-use Rattle.std.proofs.Common.{◌≡◌, ℕ, suc, ◌+◌, ◌*◌, ◌<◌, ◌≤◌, Bool, true, false, cond, ◌&&◌, ltb, leb, List, [], ◌∷◌, ◌++◌, length, get_or, drop, Some, None, Ok, Err, Option, Result, sym, refl, ap, ◌∙◌, subst, Fits, w8, arith}
+use Rattle.std.proofs.Common.{◌≡◌, ℕ, suc, ◌+◌, ◌*◌, ◌<◌, ◌≤◌, Bool, true, false, cond, ◌&&◌, ltb, leb, List, [], ◌∷◌, ◌++◌, map, length, get_or, drop, Some, None, Ok, Err, Option, Result, sym, refl, ap, ◌∙◌, subst, Fits, w8, arith}
 use Rattle.std.specs.List.{AllByRecursion}
+use Rattle.std.proofs.lemmas.List.{length-map}
 use Rattle.std.proofs.lemmas.Bool.{and_from, and_parts, lt-ltb, lt-leb, le-leb, leb-true, leb-false, cond-true, cond-false}
 use Rattle.cores.specs.declared.interface.Request.{Request}
 use Rattle.cores.specs.Acting.{within as cells_within}
@@ -241,15 +242,15 @@ module _
         step_exactly = record {
           faulty = λ f. (
             (λ q.
-            let h = has_left 9 _ (λ z. omega (arith, z)) (λ z. omega (arith, z)) (λ z. omega (arith, z)) q in
-            (h, ((exact.faulty f).0 (fault_says read f (sym (ap (λ o. o.says) (reads h)) ∙ q))).1)),
+                let h = has_left 9 _ (λ z. omega (arith, z)) (λ z. omega (arith, z)) (λ z. omega (arith, z)) q in
+                (h, ((exact.faulty f).0 (fault_says read f (sym (ap (λ o. o.says) (reads h)) ∙ q))).1)),
             (λ b. ap (λ o. o.says) (reads b.0 ∙ ap goes ((exact.faulty f).1 (inside b.0, b.1)))),
           );
           waits = λ s. (
             (λ q.
-            let h = has_left 6 _ (λ z. omega (arith, z)) (λ z. omega (arith, z)) (λ z. omega (arith, z)) q in
-            let w = wait_says read s (never_waits s) (sym (ap (λ o. o.says) (reads h)) ∙ q) in
-            (h, (w.0, ((exact.read w.0).0 w.1).1, w.2))),
+                let h = has_left 6 _ (λ z. omega (arith, z)) (λ z. omega (arith, z)) (λ z. omega (arith, z)) q in
+                let w = wait_says read s (never_waits s) (sym (ap (λ o. o.says) (reads h)) ∙ q) in
+                (h, (w.0, ((exact.read w.0).0 w.1).1, w.2))),
             (λ b. ap (λ o. o.says) (goes_on b.1.0 b.0 b.1.1 ∙ ap (λ w. gone next after text R cells states j (freed w b.1.0.place)) b.1.2)),
           );
         }
@@ -257,3 +258,12 @@ module _
 pub steps_name_first_faults : StepsNameFirstFaults
 steps_name_first_faults next after text R cells states store j octets =
     (step_exactly next after text R cells states j store octets, goes_on next after text R cells states j store octets)
+
+-- an answer that is the definition's, over a slice of bytes
+pub step_says_exactly : {K : Type 0} (state : K → List ℕ) (next : List ℕ → List ℕ → Request) (after : List ℕ → List ℕ → ℕ → List ℕ) (text : List ℕ) (R : Replayer) (cells : List ℕ) (cores : List K) (store : List ℕ) (j : ℕ) (says : List ℕ) →
+    ((i : ℕ) → Fits w8 (get_or store i 0)) → says ≡ (stepped next after text R cells (map state cores) store j).says →
+    StepExactly R (length cores) (length cells) store j says
+step_says_exactly state next after text R cells cores store j says fits q =
+    subst (StepExactly R (length cores) (length cells) store j) (sym q)
+    (subst (λ n. StepExactly R n (length cells) store j (stepped next after text R cells (map state cores) store j).says) (length-map cores state)
+    (step_exactly next after text R cells (map state cores) j store (bytes_octets store fits)))

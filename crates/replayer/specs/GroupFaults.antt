@@ -1,4 +1,4 @@
--- The group of a core's next instruction over any bytes, in words: the arcs that are read from a saved place on, or the first fault among them.
+-- The arcs to a core's next instruction over any bytes, in words: those that stand from its place on, or the first fault among them.
 use Rattle.std.specs.Prelude.{◌≡◌, ◌≢◌, ℕ, ◌+◌, ◌<◌, ◌≤◌, true, false, ◌&&◌, ◌↔◌, List, [], ◌∷◌, ◌++◌, map, length, drop, Some, None, Ok, Err, Option, Result, nat_lt, slice_index}
 use Rattle.std.specs.List.{AllByRecursion}
 use Rattle.records.specs.declared.format.Source.{Source}
@@ -34,33 +34,36 @@ InTurn g p [] = Unit {0}
 InTurn g p (a ∷ more) = MayStand g p a × InTurn g (past p (arc a)) more
 
 -- what stands at a place breaks a rule: its layer and cause
-pub data BreaksAt (counts : List ℕ) (g : Heading) (p : SavedPlace) (rest : List ℕ) : ℕ → ℕ → Type 0 where
+pub data BreaksAt
+    (counts : List ℕ) (g : Heading) (p : SavedPlace) (rest : List ℕ) : ℕ → ℕ → Type 0 where
   no_record : (cause : ℕ) → Breaks g [] rest 1 cause → BreaksAt counts g p rest 1 cause
-  head_there : (core cores cells : ℕ) (more : List ℕ) → rest ≡ bytes_of (head core cores cells) ++ more →
-      BreaksAt counts g p rest 2 3
-  arc_may_not : (a : LogArc) (more : List ℕ) → rest ≡ bytes_of (arc a) ++ more → (MayStand g p a → ⊥) →
-      BreaksAt counts g p rest 2 4
-  end_may_not : (n k : ℕ) (more : List ℕ) → rest ≡ bytes_of (end n k) ++ more → (MayEnd p n k → ⊥) →
-      BreaksAt counts g p rest 2 5
-  from_beyond : (a : LogArc) (more : List ℕ) → rest ≡ bytes_of (arc a) ++ more → MayStand g p a →
-      slice_index counts a.source < a.count → BreaksAt counts g p rest 3 6
+  head_there : (core cores cells : ℕ) (more : List ℕ) →
+      rest ≡ bytes_of (head core cores cells) ++ more → BreaksAt counts g p rest 2 3
+  arc_may_not : (a : LogArc) (more : List ℕ) → rest ≡ bytes_of (arc a) ++ more →
+      (MayStand g p a → ⊥) → BreaksAt counts g p rest 2 4
+  end_may_not : (n k : ℕ) (more : List ℕ) → rest ≡ bytes_of (end n k) ++ more →
+      (MayEnd p n k → ⊥) → BreaksAt counts g p rest 2 5
+  from_beyond : (a : LogArc) (more : List ℕ) → rest ≡ bytes_of (arc a) ++ more →
+      MayStand g p a → slice_index counts a.source < a.count → BreaksAt counts g p rest 3 6
 
 -- what stands at a place breaks no rule, and is no arc to instruction t
-pub data EndsAt (counts : List ℕ) (g : Heading) (t : ℕ) (p : SavedPlace) (rest : List ℕ) : Type 0 where
-  other_arc : (a : LogArc) (more : List ℕ) → rest ≡ bytes_of (arc a) ++ more → MayStand g p a →
-      a.count ≤ slice_index counts a.source → a.target ≢ t → EndsAt counts g t p rest
-  log_end : (n k : ℕ) (more : List ℕ) → rest ≡ bytes_of (end n k) ++ more → MayEnd p n k →
-      EndsAt counts g t p rest
+pub data EndsAt
+    (counts : List ℕ) (g : Heading) (t : ℕ) (p : SavedPlace) (rest : List ℕ) : Type 0 where
+  other_arc : (a : LogArc) (more : List ℕ) → rest ≡ bytes_of (arc a) ++ more →
+      MayStand g p a → a.count ≤ slice_index counts a.source → a.target ≢ t → EndsAt counts g t p rest
+  log_end : (n k : ℕ) (more : List ℕ) → rest ≡ bytes_of (end n k) ++ more →
+      MayEnd p n k → EndsAt counts g t p rest
 
 -- the source of the first arc whose source is not done, or none where all are
 pub data FirstWait (done : List ℕ) (arcs : List LogArc) : Option Source → Type 0 where
   all_done : Within done arcs → FirstWait done arcs None
-  first_waits : (front : List LogArc) (a : LogArc) (more : List LogArc) → arcs ≡ front ++ (a ∷ more) →
-      Within done front → slice_index done a.source < a.count → FirstWait done arcs (Some (source_of a))
+  first_waits : (front : List LogArc) (a : LogArc) (more : List LogArc) →
+      arcs ≡ front ++ (a ∷ more) → Within done front → slice_index done a.source < a.count →
+      FirstWait done arcs (Some (source_of a))
 
 -- in a log, of the arcs to instruction t from a place on
 module _ (counts : List ℕ) (g : Heading) (log : List ℕ) (t : ℕ) (p : SavedPlace) where
-  -- these stand there, each where it may and from within the counts, and behind them the rest of the log
+  -- these stand there, each where it may and from within the counts, and then the rest of the log
   pub record ArcsThere (arcs : List LogArc) (rest : List ℕ) : Type 0 where
     pub bytes : drop p.offset log ≡ written (map arc arcs) ++ rest
     pub to : AllByRecursion (λ a. a.target ≡ t) arcs
@@ -85,8 +88,8 @@ module _ (counts : List ℕ) (g : Heading) (log : List ℕ) (t : ℕ) (p : Saved
     pub place : x.place ≡ behind p arcs
     pub waits : FirstWait done arcs x.waits
 
--- what reading core j's group may say, in words: refused with 9 exactly for its first fault, read exactly
--- as it stands there, and refused with 8 exactly if the sizes do not fit or the session has no such core
+-- what reading core j's group may say, in words: refused with 9 exactly for its first fault, read
+-- exactly as it stands there, and refused with 8 exactly if the sizes do not fit or there is no such core
 pub record GroupExactly
     (store : List ℕ) (z : Sizes) (j : ℕ) (p : SavedPlace) (counts done : List ℕ)
     (says : Result Group (List ℕ)) : Type 0 where

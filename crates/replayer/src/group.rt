@@ -55,7 +55,8 @@ pub fn read_group(
     done: &[u16; 4],
 ) -> Result<Group, Refusal>
     ensures answer { group_as result ≡ read_group store.now sizes core place counts.now done.now }
-    ensures exactly { GroupExactly store.now sizes core place counts.now done.now (group_as result) }
+    ensures exactly { GroupExactly store.now sizes core place counts.now done.now
+        (group_as result) }
 {
     let mut reader = Reader::resume(store, sizes, core, place)?;
     let next = done[core] as u32 + 1;

@@ -14,9 +14,9 @@ pub fn replays_follow_their_logs()
     ensures runs { RunsFollow }
 {}
 
-// Holds the laws of damaged logs: over any bytes, a group is refused exactly for its first fault and read exactly as it
-// stands in its log, and a step names a fault exactly if it is the first of its core's group. Where the core's log is
-// intact up to the core's place, that is the first fault of the whole log.
+// Holds the laws of damaged logs: over any bytes, the arcs to a core's next instruction are refused exactly for the
+// first fault among them and read exactly as they stand, and a step says so. Where the core's log is intact up to
+// its place, that fault is the first of the whole log.
 pub fn steps_name_first_faults()
     ensures groups { GroupsReadExactly }
     ensures steps { StepsNameFirstFaults }
