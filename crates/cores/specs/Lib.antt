@@ -4,3 +4,4 @@ pub mod Register
 pub mod Memory
 pub mod Acting
 pub mod Latest
+pub mod Items
