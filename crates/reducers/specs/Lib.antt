@@ -2,3 +2,4 @@ pub mod Numbers
 pub mod Rows
 pub mod Calls
 pub mod Decided
+pub mod Vectors

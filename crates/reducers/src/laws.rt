@@ -1,4 +1,10 @@
 ghost use Rattle.reducers.specs.Calls.{KeepAllKnowsNothing, PairwiseKnowsTheLargest, ExactMeetsEveryBound, NoneKnowsMoreThanExact};
+ghost use Rattle.reducers.specs.Vectors.{Knowing, MakesTheBound, MakesKnownOnly, MakesZeros};
+
+use crate::exact::Exact;
+use crate::interface::Reducer;
+use crate::keep_all::KeepAll;
+use crate::pairwise::Pairwise;
 
 // Holds the law that keep-all knows nothing after any list of calls.
 pub fn keep_all_knows_nothing()
@@ -14,4 +20,16 @@ pub fn pairwise_knows_the_largest_count_taken()
 pub fn exact_meets_every_bound()
     ensures equal { ExactMeetsEveryBound }
     ensures greatest { NoneKnowsMoreThanExact }
+{}
+
+// Holds what is known after some calls where every bound is met with equality.
+pub fn what_calls_make_known()
+    ensures { Knowing }
+{}
+
+// Holds what each of the three types makes of a bound: exact the bound itself, pairwise what it knows, keep-all zeros.
+pub fn what_each_reducer_makes_of_a_bound()
+    ensures exact { MakesTheBound ⟦<Exact as Reducer>⟧.meets }
+    ensures pairwise { MakesKnownOnly ⟦<Pairwise as Reducer>⟧.meets }
+    ensures keep_all { MakesZeros ⟦<KeepAll as Reducer>⟧.meets }
 {}
