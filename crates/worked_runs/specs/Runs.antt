@@ -1,54 +1,18 @@
--- Eight runs worked through together, by the definitions of begin, turn, opening, step and run.
-use Rattle.std.specs.Prelude.{List, [], ◌∷◌, ◌≡◌, ℕ, ◌*◌, length, map, take, replicate}
-use Rattle.cores.specs.Memory.{Rules, rules}
+-- Eight runs worked through together, by the definitions of begin, turn, opening, step and run, and each answer by its numbers.
+use Rattle.std.specs.Prelude.{List, [], ◌∷◌, ◌≡◌, ℕ, take}
+use Rattle.cores.specs.Memory.{Rules}
 use Rattle.cores.specs.Script.{script_next, script_after}
-use Rattle.logs.specs.Lawful.{whole}
 use Rattle.logs.specs.Session.{no_counts}
 use Rattle.recorder.specs.Decided.{turned_by}
+use Rattle.recorder.specs.Turns.{World}
+use Rattle.records.specs.Settings.{no_sizes, log_of}
 use Rattle.reducers.specs.Decided.{exactly, nothing}
-use Rattle.recorder.specs.Refusals as book
-use Rattle.recorder.specs.Turns.{World, world, begun}
-use Rattle.records.specs.Format.{LogArc, arc, written}
-use Rattle.records.specs.Settings.{no_sizes, log_of, heading_of}
-use Rattle.records.specs.declared.settings.Sizes.{Sizes}
-use Rattle.reducers.specs.Numbers.{Numbers, zeros}
+use Rattle.reducers.specs.Numbers.{Numbers}
 use Rattle.reducers.specs.Rows.{known_only}
 use Rattle.replayer.specs.Runs.{ran}
 use Rattle.replayer.specs.Steps.{Opened, Outcome, started, reopened, stepped}
-
--- script items: kind, cell, number
-abbrev item : ℕ → ℕ → ℕ → List ℕ → List ℕ
-item kind cell number rest = kind ∷ cell ∷ 0 ∷ number ∷ rest
-
-abbrev script : List ℕ → Rules
-script text = rules script_next script_after text
-
-abbrev sizes_of : ℕ → ℕ → ℕ → Sizes
-sizes_of P C L = record { cores = P; cells = C; log_bytes = L }
-
--- an arc from a core's instruction to this core's
-abbrev from : ℕ → ℕ → ℕ → LogArc
-from core count target = record { source = core; count = count; target = target }
-
--- the world after begin, with cells at 0
-abbrev at_begin : Sizes → List (List ℕ) → World
-at_begin z states =
-    world
-    (begun z (length states) z.cells
-    (record { store = replicate (z.cores * z.log_bytes) 0; book = book.started no_sizes; history = []; numbers = zeros })).leaves
-    (replicate z.cells 0) states
-
--- the world after some turns
-abbrev after_turns : (Numbers → Numbers) → Rules → World → List ℕ → World
-after_turns F K w [] = w
-after_turns F K w (j ∷ turns) = after_turns F K (turned_by F K j w).leaves turns
-
--- core j's log begins with a whole log of these arcs and n instructions
-abbrev Logged : World → ℕ → List LogArc → ℕ → Type 0
-Logged w j arcs n =
-    let z = w.tape.book.sizes in
-    let bytes = written (whole (heading_of z j) (map arc arcs) n) in
-    take (length bytes) (log_of w.tape.store z j) ≡ bytes
+use Rattle.worked_runs.specs.Answers.{TurnsDone, TurnsLeave, TurnsRefused, TurnsRefusedInOrder, Openings, StepsDone, StepsRefused, RunsEnd, CircleGoesUp, DoneTargetEndsTheGroup, Named}
+use Rattle.worked_runs.specs.Scripts.{item, script, sizes_of, from, at_begin, after_turns, Logged}
 
 -- three cores, two cells: 0:1 writes 7 to cell 0, 1:1 reads it, 1:2 writes 9 to cell 1, 2:1 reads it, 2:2 writes 4 to cell 0
 abbrev three_text : List ℕ
@@ -120,7 +84,7 @@ LeastRoom =
     ((turned_by exactly three_cores 0 (at_begin (sizes_of 3 2 26) three_states)).says ≡ 0 ∷ 2 ∷ 0 ∷ 7 ∷ 1 ∷ 0 ∷ 0 ∷ [])
     × ((turned_by exactly three_cores 0 (at_begin (sizes_of 3 2 25) three_states)).says ≡ 5 ∷ [])
 
--- all eight together
+-- all eight together, and the answers
 pub record WorkedRuns : Type 0 where
   pub exact_arcs : ExactArcs
   pub pairwise_arcs : PairwiseArcs
@@ -130,3 +94,14 @@ pub record WorkedRuns : Type 0 where
   pub read_between : ReadBetween
   pub own_read : OwnRead
   pub least_room : LeastRoom
+  pub turns_done : TurnsDone
+  pub turns_leave : TurnsLeave
+  pub turns_refused : TurnsRefused
+  pub turns_refused_in_order : TurnsRefusedInOrder
+  pub openings : Openings
+  pub steps_done : StepsDone
+  pub steps_refused : StepsRefused
+  pub runs_end : RunsEnd
+  pub circle_goes_up : CircleGoesUp
+  pub done_target_ends_the_group : DoneTargetEndsTheGroup
+  pub named : Named

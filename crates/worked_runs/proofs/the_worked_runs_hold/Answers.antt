@@ -21,4 +21,15 @@ returns c =
       read_between = (refl, refl, refl);
       own_read = (refl, refl);
       least_room = (refl, refl);
+      turns_done = refl;
+      turns_leave = (refl, refl, refl, refl, refl);
+      turns_refused = (refl, refl, refl, refl, refl, refl, refl);
+      turns_refused_in_order = (refl, refl, refl, refl, refl);
+      openings = (refl, refl, refl, refl, refl, refl, refl);
+      steps_done = refl;
+      steps_refused = (refl, refl, refl);
+      runs_end = (refl, refl, refl, refl, refl);
+      circle_goes_up = (refl, refl);
+      done_target_ends_the_group = (refl, refl, refl, refl, refl);
+      named = (refl, refl, refl, refl, refl, refl);
     }
