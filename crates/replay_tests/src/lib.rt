@@ -409,6 +409,42 @@ mod tests {
         bench.play(&rt, WORKED, steps)
     }
 
+    // A circle goes from core 0 up: of two writes to cell 0 without arcs, that of core 2 stands.
+    #[test]
+    fn cores_take_turns_from_0(rt: HostRuntime) -> Result<(), Fail> {
+        let first = b"HC\0\x03\0\x02ED\0\x01\0\0";
+        let second = b"HC\x01\x03\0\x02ED\0\x01\0\0";
+        let third = b"HC\x02\x03\0\x02ED\0\x01\0\0";
+        let mut bench = Bench::new(store_of(first, second, third));
+        bench.cores = [ScriptCore::new(6), ScriptCore::new(3), ScriptCore::new(0)];
+        assert_eq!(rt; bench.open(SIZES), Ok(()));
+        assert_eq!(rt; bench.run(), (Ok((true, 3)), [7, 9]));
+        Ok(())
+    }
+
+    // The second arc to core 2 is from 0:1, to 2:2. Changed to one to 2:1, which is done, it ends the group and is not passed:
+    // changed again, to one to 2:3, it is waited for.
+    #[test]
+    fn arc_to_a_done_instruction(rt: HostRuntime) -> Result<(), Fail> {
+        let first = b"HC\0\x03\0\x02ED\0\x01\0\0";
+        let second = b"HC\x01\x03\0\x02ED\0\x01\0\0";
+        let third = b"HC\x02\x03\0\x02AR\x01\0\x01\0\x01AR\0\0\x01\0\x02ED\0\x03\0\x02";
+        let text = b"\0\0\0\0\0\0\0\0\0\0\0\0";
+        let mut bench = Bench::new(store_of(first, second, third));
+        bench.cores = [ScriptCore::new(0); 3];
+        assert_eq!(rt; bench.open(SIZES), Ok(()));
+        let steps = [
+            (1, Ok((Request::Local, 1, 0))),
+            (2, Ok((Request::Local, 1, 0))),
+            (2, Err([6, 0, 1, 0, 0])),
+        ];
+        bench.play(&rt, text, steps)?;
+        assert_eq!(rt; bench.damage(85, 1), 2);
+        bench.play(&rt, text, [(2, Ok((Request::Local, 2, 0)))])?;
+        assert_eq!(rt; bench.damage(85, 3), 1);
+        bench.play(&rt, text, [(2, Err([6, 0, 1, 0, 0]))])
+    }
+
     // Two arcs to 0:1: it waits for the first whose source is not done.
     #[test]
     fn two_arcs_to_one_instruction(rt: HostRuntime) -> Result<(), Fail> {
