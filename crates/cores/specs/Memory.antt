@@ -106,10 +106,3 @@ unrefused ((j, refused) ∷ f) = cond refused (unrefused f) (j ∷ unrefused f)
 
 abbrev pub RefusedTurnsChangeNothing : Type 0
 RefusedTurnsChangeNothing = (K : Rules) (m : Memory) (f : List (ℕ × Bool)) → fed K m f ≡ plain K m (unrefused f)
-
--- a refused turn leaves the memory, and one that was not refused is a turn of the plain memory
-pub record Feeding : Type 0 where
-  pub nothing_fed : (K : Rules) (m : Memory) → fed K m [] ≡ m
-  pub refused : (K : Rules) (m : Memory) (j : ℕ) (f : List (ℕ × Bool)) → fed K m ((j, true) ∷ f) ≡ fed K m f
-  pub accepted : (K : Rules) (m : Memory) (j : ℕ) (f : List (ℕ × Bool)) → fed K m ((j, false) ∷ f) ≡ turned K (fed K m f) j
-  pub kept : unrefused ((3, false) ∷ (2, true) ∷ (1, false) ∷ []) ≡ 3 ∷ 1 ∷ []

@@ -1,8 +1,7 @@
--- What a reducer that meets every bound with equality knows after some calls, the newest first; and what each reducer makes of a bound.
+-- What a reducer that meets every bound with equality knows after some calls, the newest first.
 use Rattle.std.specs.Prelude.{◌≡◌, ℕ, ◌+◌, true, false, List, [], ◌∷◌}
 use Rattle.reducers.specs.Calls.{Call, takes, notes, largest, most}
-use Rattle.reducers.specs.Numbers.{Numbers, Meets, zeros, knows}
-use Rattle.reducers.specs.Rows.{known_only}
+use Rattle.reducers.specs.Numbers.{knows}
 use Rattle.reducers.specs.declared.interface.AccessKind.TheVariants.{Read, Write}
 
 -- i:a is known to j, and i:(a + 1) is not
@@ -46,19 +45,3 @@ pub record Knowing : Type 0 where
   pub notes_256 : most (notes 0 256 Write ∷ told) ≡ most told
   -- pairwise: of the same calls the largest count, and nothing of what the source was told
   pub pairwise : (largest (takes 0 2 5 Write 1 ∷ told) 1 0 ≡ 2) × (largest (takes 0 2 5 Write 1 ∷ told) 1 1 ≡ 0)
-
--- the numbers of a reducer are what F makes of their bound
-abbrev pub Makes : Meets → (Numbers → Numbers) → Type 0
-Makes meets F = (n b : Numbers) → meets n b → n ≡ F b
-
--- exact: each bound itself
-abbrev pub MakesTheBound : Meets → Type 0
-MakesTheBound meets = Makes meets (λ b. b)
-
--- pairwise: what the bound knows, and no stamp
-abbrev pub MakesKnownOnly : Meets → Type 0
-MakesKnownOnly meets = Makes meets known_only
-
--- keep-all: zeros
-abbrev pub MakesZeros : Meets → Type 0
-MakesZeros meets = Makes meets (λ b. zeros)

@@ -1,5 +1,7 @@
 ghost use Rattle.reducers.specs.Calls.{KeepAllKnowsNothing, PairwiseKnowsTheLargest, ExactMeetsEveryBound, NoneKnowsMoreThanExact};
-ghost use Rattle.reducers.specs.Vectors.{Knowing, MakesTheBound, MakesKnownOnly, MakesZeros};
+ghost use Rattle.reducers.specs.Decided.{Decides, exactly, nothing};
+ghost use Rattle.reducers.specs.Rows.{known_only};
+ghost use Rattle.reducers.specs.Vectors.{Knowing};
 
 use crate::exact::Exact;
 use crate::interface::Reducer;
@@ -29,7 +31,7 @@ pub fn what_calls_make_known()
 
 // Holds what each of the three types makes of a bound: exact the bound itself, pairwise what it knows, keep-all zeros.
 pub fn what_each_reducer_makes_of_a_bound()
-    ensures exact { MakesTheBound ⟦<Exact as Reducer>⟧.meets }
-    ensures pairwise { MakesKnownOnly ⟦<Pairwise as Reducer>⟧.meets }
-    ensures keep_all { MakesZeros ⟦<KeepAll as Reducer>⟧.meets }
+    ensures exact { Decides ⟦<Exact as Reducer>⟧.meets exactly }
+    ensures pairwise { Decides ⟦<Pairwise as Reducer>⟧.meets known_only }
+    ensures keep_all { Decides ⟦<KeepAll as Reducer>⟧.meets nothing }
 {}

@@ -1,5 +1,5 @@
 -- The cell's stamps take what the core knows.
-use Rattle.std.proofs.Common.{◌≡◌, ◌<◌, length, rules, sym}
+use Rattle.std.proofs.Common.{◌<◌, length, rules, sym}
 use Rattle.std.proofs.lemmas.Bool.{and_from, lt-ltb}
 use Rattle.reducers.proofs.Exacts.{stamps_noted}
 use Rattle.reducers.proofs.exact.ExactReducer.note.Goals as goal
