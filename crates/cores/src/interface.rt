@@ -1,5 +1,6 @@
 // A core: what it asks next, and how an answer changes it.
 ghost use Rattle.std.specs.Prelude.{◌≡◌, ℕ, List};
+ghost use Rattle.cores.specs.Acting.{request_numbers};
 ghost use Rattle.cores.specs.declared.interface.Request.{Request};
 ghost use Rattle.cores.specs.declared.interface.Request.TheVariants.{Halt};
 
@@ -23,9 +24,9 @@ pub trait Core: Copy {
     // The state after the request, from the number brought.
     ghost after: { List ℕ → List ℕ → ℕ → List ℕ };
 
-    // Answers the next request and changes nothing.
+    // Answers the next request, by its number and values, and changes nothing.
     fn ask(&self, text: &[u8]) -> Request
-        ensures { result ≡ next text.now (state self.now) };
+        ensures { request_numbers result ≡ request_numbers (next text.now (state self.now)) };
 
     // Replaces the state by the one after the request.
     fn tell(&mut self, text: &[u8], number: u16)

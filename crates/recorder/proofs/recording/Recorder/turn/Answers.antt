@@ -2,6 +2,7 @@
 use Rattle.std.proofs.Common.{◌+◌, ◌<◌, drop, length, set, sym, ap, ◌∙◌, arith}
 use Rattle.std.proofs.lemmas.Result.{err_from_is_err_and}
 use Rattle.cores.proofs.OneCore.{here, tells, others_kept}
+use Rattle.cores.proofs.Requests.{same_request}
 use Rattle.cores.proofs.Surplus.{stored_surplus, drop_further}
 use Rattle.records.proofs.Settling.{cores_of}
 use Rattle.recorder.specs.Refusals.{book}
@@ -28,7 +29,7 @@ returns-in_err-admit-clause-outcome g c =
     let p = err_from_is_err_and c.from_residual.result c.from_residual.ensures.1 in
     rw (p.1, p.2) (barred_out g.K.Core.state g.R.Reducer.meets g.K.Core.next g.K.Core.after a.text.now a.cores.now a.cells.now
     (tape g.R.Reducer.numbers a.self.now a.store.now) a.j c.if-not-held_by.ensures (omega (arith, c.if-j-get.false, cores_of c.get.ensures.same))
-    c.ask-request.result (c.ask-request.ensures ∙ ap (g.K.Core.next a.text.now) (sym at)) c.in_err-admit.field-0.0 c.in_err-admit.ensures)
+    c.ask-request.result (same_request _ _ c.ask-request.ensures ∙ ap (g.K.Core.next a.text.now) (sym at)) c.in_err-admit.field-0.0 c.in_err-admit.ensures)
 
 pub returns-clause-outcome : goal.returns-clause-outcome
 returns-clause-outcome g c =
@@ -38,7 +39,7 @@ returns-clause-outcome g c =
     let at = here g.K.Core.state a.text.now a.cores.now a.j inside c.index-cores-j.result c.index-cores-j.is in
     done g.K.Core.state g.R.Reducer.meets g.K.Core.next g.K.Core.after a.text.now a.cores.now a.cells.now
     (tape g.R.Reducer.numbers a.self.now a.store.now) a.j c.if-not-held_by.ensures (omega (arith, c.if-j-get.false, cores_of c.get.ensures.same))
-    c.ask-request.result (c.ask-request.ensures ∙ ap (g.K.Core.next a.text.now) (sym at)) c.in_ok-admit.ensures
+    c.ask-request.result (same_request _ _ c.ask-request.ensures ∙ ap (g.K.Core.next a.text.now) (sym at)) c.in_ok-admit.ensures
     c.enter-count.result.0 c.enter-count.ensures.count c.enter-count.result.1 (tape g.R.Reducer.numbers c.enter-count.new.self c.enter-count.new.store) c.enter-count.ensures.entered
     c.act-number.result c.act-number.new.cells c.act-number.ensures.brings c.act-number.ensures.stores
     (set a.cores.now a.j c.tell.new.self) (tells g.K.Core.state a.text.now a.cores.now a.j g.K.Core.after c.act-number.result inside c.index-cores-j.result c.index-cores-j.is c.tell.new.self c.tell.ensures)

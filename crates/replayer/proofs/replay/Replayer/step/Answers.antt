@@ -1,6 +1,7 @@
 -- Each way out of a step is what the step comes to.
 use Rattle.std.proofs.Common.{◌≡◌, ◌+◌, ◌<◌, map, length, drop, set, Ok, Err, sym, ap, ◌∙◌, arith, rules}
 use Rattle.cores.proofs.OneCore.{here, tells, others_kept}
+use Rattle.cores.proofs.Requests.{same_request}
 use Rattle.cores.proofs.Surplus.{stored_surplus, drop_further}
 use Rattle.replayer.specs.Answers.{step_refusal, step_numbers}
 use Rattle.replayer.specs.Steps.{refused}
@@ -25,7 +26,7 @@ returns-in_err-count-clause-outcome g c =
     let is : c.from_residual-in_err-count.result ≡ Err e = search rules in
     ap (λ r. record { says = step_numbers r; replayer = c.go_on.new.self; cells = a.cells.now; states = map g.K.Core.state a.cores.now }) is
     ∙ stays _ _ _ _ _ _ _ _ _ c.in_ok-group.group c.in_ok-group.ensures.0 may
-    c.ask-request.result (c.ask-request.ensures ∙ ap (g.K.Core.next a.text.now) (sym at)) e c.go_on.new.self c.in_err-count.ensures
+    c.ask-request.result (same_request _ _ c.ask-request.ensures ∙ ap (g.K.Core.next a.text.now) (sym at)) e c.go_on.new.self c.in_err-count.ensures
 
 pub returns-clause-outcome : goal.returns-clause-outcome
 returns-clause-outcome g c =
@@ -36,7 +37,7 @@ returns-clause-outcome g c =
     let at = here g.K.Core.state a.text.now a.cores.now a.j inside c.index-cores-j.result c.index-cores-j.is in
     (λ i. record { says = step_numbers (Ok (record { request = c.ask-request.result; count = went.3 i; number = c.act-number.result })); replayer = went.4 i; cells = c.act-number.new.cells; states = map g.K.Core.state (set a.cores.now a.j c.tell.new.self) })
     ∙ done _ _ _ _ _ _ _ _ _ c.in_ok-group.group c.in_ok-group.ensures.0 may went.0
-    c.ask-request.result (c.ask-request.ensures ∙ ap (g.K.Core.next a.text.now) (sym at)) went.1 went.2
+    c.ask-request.result (same_request _ _ c.ask-request.ensures ∙ ap (g.K.Core.next a.text.now) (sym at)) went.1 went.2
     _ c.act-number.ensures.brings _ c.act-number.ensures.stores _
     (tells g.K.Core.state a.text.now a.cores.now a.j g.K.Core.after c.act-number.result inside c.index-cores-j.result c.index-cores-j.is c.tell.new.self c.tell.ensures)
 
