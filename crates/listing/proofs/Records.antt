@@ -2,7 +2,7 @@
 use Rattle.std.proofs.Common.{◌≡◌, ℕ, ◌+◌, ◌-◌, ◌<◌, Bool, false, List, [], ◌++◌, length, is_ok, Some, None, Ok, Err, Option, Result, sym, refl, ap, ◌∙◌, append-nil, arith}
 use Rattle.records.specs.declared.faults.RecordFault.{RecordFault}
 use Rattle.records.specs.Faults.{Fault, record_fault}
-use Rattle.records.specs.Format.{Entry, entry, bytes_of}
+use Rattle.records.specs.Format.{entry, bytes_of, record_numbers}
 use Rattle.records.specs.Reading.{View, Next, advanced, next_record}
 use Rattle.logs.specs.Walk.{Reading, prefixed, look}
 use Rattle.logs.proofs.Going.{Going, look_fits, round_less, round_cursor, round_again, round_fault}
@@ -25,12 +25,12 @@ listed_none : (before : List ℕ) (b : Bool) (all : Listed) → ◌≡◌ {A = L
 listed_none before b all e = (sym (append-nil before) ∙ ap (λ x. x.text) e, ap (λ x. x.whole) e)
 
 -- what a step tells, by what the reader said
-told_line : (x : RecordLine) (j at : ℕ) (s : Result (Option Entry) Fault) → told_as (Ok (Some x)) ≡ told_of j at s → (s ≡ Ok (Some (entry x.«record»))) × (x.core ≡ j) × (x.offset ≡ at)
-told_line x j at (Ok (Some y)) q = (let same : y ≡ entry x.«record» = cc in ap (λ x. Ok (Some x)) same, cc, cc)
+told_line : (x : RecordLine) (j at : ℕ) (s : Result (Option (List ℕ)) Fault) → told_as (Ok (Some x)) ≡ told_of j at s → (s ≡ Ok (Some (record_numbers (entry x.«record»)))) × (x.core ≡ j) × (x.offset ≡ at)
+told_line x j at (Ok (Some y)) q = (let same : y ≡ record_numbers (entry x.«record») = cc in ap (λ x. Ok (Some x)) same, cc, cc)
 told_line x j at (Ok None) q = absurd (let z : ◌≡◌ {A = ℕ} 0 1 = cc in omega arith)
 told_line x j at (Err f) q = absurd (let z : ◌≡◌ {A = ℕ} 0 1 = cc in omega arith)
 
-told_fault : (e : RecordFault) (j at : ℕ) (s : Result (Option Entry) Fault) → told_as (Err e) ≡ told_of j at s → s ≡ Err (record_fault e)
+told_fault : (e : RecordFault) (j at : ℕ) (s : Result (Option (List ℕ)) Fault) → told_as (Err e) ≡ told_of j at s → s ≡ Err (record_fault e)
 told_fault e j at (Ok (Some y)) q = absurd (let z : ◌≡◌ {A = ℕ} 0 1 = cc in omega arith)
 told_fault e j at (Ok None) q = absurd (let z : ◌≡◌ {A = ℕ} 0 1 = cc in omega arith)
 told_fault e j at (Err f) q = let same : f ≡ record_fault e = cc in ap Err same
@@ -42,7 +42,7 @@ module _ (v w : View) (stands : w ≡ (next_record v).reader) (before : List ℕ
 
   -- a record, whose line is written
   module _ (x : RecordLine) (told : told_as (Ok (Some x)) ≡ told_of j v.cursor (next_record v).says) where
-    says : ((next_record v).says ≡ Ok (Some (entry x.«record»))) × (x.core ≡ j) × (x.offset ≡ v.cursor)
+    says : ((next_record v).says ≡ Ok (Some (record_numbers (entry x.«record»)))) × (x.core ≡ j) × (x.offset ≡ v.cursor)
     says = told_line x j v.cursor (next_record v).says told
 
     pub line_less : length w.log - w.cursor < length v.log - v.cursor

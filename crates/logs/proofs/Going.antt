@@ -2,18 +2,20 @@
 use Rattle.std.proofs.Common.{◌≡◌, ℕ, zero, suc, ◌+◌, ◌-◌, ◌<◌, ◌≤◌, List, length, Some, None, Ok, Err, Option, Result, sym, refl, ap, ◌∙◌, subst, arith}
 use Rattle.records.specs.declared.reading.State.{State}
 use Rattle.records.specs.Faults.{Fault}
-use Rattle.records.specs.Format.{Entry, bytes_of}
+use Rattle.records.specs.Format.{Entry, bytes_of, record_numbers}
 use Rattle.records.specs.Reading.{Sight, View, Next, moved, advanced, instructions_in}
 use Rattle.records.proofs.Looking.{seen_fits, held_fits, size_pos}
+use Rattle.records.proofs.Marks.{same_entry}
 use Rattle.logs.specs.Walk.{Reading, prefixed, stopped, told, walk, look, look_held, reading_from, holding_from}
 
 -- what a step of the reader says of what was seen
-saw_some : (v w : View) (e : Entry) (x : Sight) → ◌≡◌ {A = Next} (record { says = Ok (Some e); reader = w }) (advanced v x) →
+saw_some : (v w : View) (e : Entry) (x : Sight) → ◌≡◌ {A = Next} (record { says = Ok (Some (record_numbers e)); reader = w }) (advanced v x) →
     (x ≡ Ok (Some (e, w.state))) × (w ≡ moved v e w.state)
 saw_some v w e (Ok (Some (y, t))) q =
     let p = ap (λ n. n.says) q in
     let r = ap (λ n. n.reader) q in
-    let same : e ≡ y = cc in
+    let numbers : record_numbers e ≡ record_numbers y = cc in
+    let same = same_entry e y numbers in
     let s : w.state ≡ t = ap (λ u. u.state) r in
     ((λ i. Ok (Some (sym same i, sym s i))), r ∙ (λ i. moved v (sym same i) (sym s i)))
 saw_some v w e (Ok None) q = let p = ap (λ n. n.says) q in absurd cc
@@ -86,21 +88,21 @@ held_look_fits counts v e t q = held_fits counts v.heading v.log v.cursor v.stat
 
 -- a round of the loop: the reader at v answered, and stands at w now
 module _ (see : View → Sight) (fits : (v : View) (e : Entry) (t : State) → see v ≡ Ok (Some (e, t)) → length (bytes_of e) ≤ length v.log - v.cursor)
-    (v w : View) (says : Result (Option Entry) Fault) (step : ◌≡◌ {A = Next} (record { says = says; reader = w }) (advanced v (see v))) where
-  saw : (e : Entry) → says ≡ Ok (Some e) → (see v ≡ Ok (Some (e, w.state))) × (w ≡ moved v e w.state)
+    (v w : View) (says : Result (Option (List ℕ)) Fault) (step : ◌≡◌ {A = Next} (record { says = says; reader = w }) (advanced v (see v))) where
+  saw : (e : Entry) → says ≡ Ok (Some (record_numbers e)) → (see v ≡ Ok (Some (e, w.state))) × (w ≡ moved v e w.state)
   saw e q = saw_some v w e (see v) ((λ i. record { says = sym q i; reader = w }) ∙ step)
 
-  pub round_less : (e : Entry) → says ≡ Ok (Some e) → length w.log - w.cursor < length v.log - v.cursor
+  pub round_less : (e : Entry) → says ≡ Ok (Some (record_numbers e)) → length w.log - w.cursor < length v.log - v.cursor
   round_less e q =
       let p = saw e q in
       let log : length w.log ≡ length v.log = ap (λ u. length u.log) p.1 in
       let cursor : w.cursor ≡ v.cursor + length (bytes_of e) = ap (λ u. u.cursor) p.1 in
       omega (arith, size_pos e, fits v e w.state p.0)
 
-  pub round_cursor : (e : Entry) → says ≡ Ok (Some e) → w.cursor ≡ v.cursor + length (bytes_of e)
+  pub round_cursor : (e : Entry) → says ≡ Ok (Some (record_numbers e)) → w.cursor ≡ v.cursor + length (bytes_of e)
   round_cursor e q = ap (λ u. u.cursor) (saw e q).1
 
-  pub round_again : {Y : Type 0} (G : Reading → Y) (all : Y) → Going G see all v → (e : Entry) → says ≡ Ok (Some e) → (H : Reading → Y) → ((x : Reading) → G (prefixed e x) ≡ H x) → Going H see all w
+  pub round_again : {Y : Type 0} (G : Reading → Y) (all : Y) → Going G see all v → (e : Entry) → says ≡ Ok (Some (record_numbers e)) → (H : Reading → Y) → ((x : Reading) → G (prefixed e x) ≡ H x) → Going H see all w
   round_again G all g e q H past =
       let p = saw e q in
       subst (Going H see all) (sym p.1) (going_some G see all v g e w.state p.0 (fits v e w.state p.0) H past)

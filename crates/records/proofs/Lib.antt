@@ -1,3 +1,4 @@
 pub mod Splices
 pub mod Looking
 pub mod Settling
+pub mod Marks

@@ -30,6 +30,12 @@ bytes_of (head core cores cells) = 0x48 ∷ 0x43 ∷ core ∷ cores ∷ two_byte
 bytes_of (arc a) = 0x41 ∷ 0x52 ∷ a.source ∷ (two_bytes a.count ++ two_bytes a.target)
 bytes_of (end instructions arcs) = 0x45 ∷ 0x44 ∷ (two_bytes instructions ++ two_bytes arcs)
 
+-- a record by its mark and its fields
+abbrev pub record_numbers : Entry → List ℕ
+record_numbers (head core cores cells) = 0x48 ∷ 0x43 ∷ core ∷ cores ∷ cells ∷ []
+record_numbers (arc a) = 0x41 ∷ 0x52 ∷ a.source ∷ a.count ∷ a.target ∷ []
+record_numbers (end instructions arcs) = 0x45 ∷ 0x44 ∷ instructions ∷ arcs ∷ []
+
 -- how many bytes an end record takes
 abbrev pub end_size : ℕ
 end_size = 6

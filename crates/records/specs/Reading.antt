@@ -12,7 +12,7 @@ use Rattle.records.specs.declared.store.Logs.{Logs}
 use Rattle.records.specs.declared.reading.Reader.{Reader}
 use Rattle.records.specs.declared.settings.Sizes.{Sizes}
 use Rattle.records.specs.declared.settings.Heading.{Heading}
-use Rattle.records.specs.Format.{Entry, head, arc, end, entry, bytes_of}
+use Rattle.records.specs.Format.{Entry, head, arc, end, entry, bytes_of, record_numbers}
 use Rattle.records.specs.Faults.{Fault, byte_fault, record_fault, session_fault, bad_setting, refusal}
 use Rattle.records.specs.Settings.{heading_of, fits, log_of}
 
@@ -126,16 +126,16 @@ pub record View : Type 0 where
 abbrev pub view : Reader → View
 view r = record { heading = r.heading; log = r.log.now; cursor = r.cursor; state = r.state }
 
--- the record that is read next, and the reader behind it; a fault, and the end, leave the reader where it is
+-- the record that is read next, by its mark and fields, and the reader behind it; a fault, and the end, leave the reader where it is
 pub record Next : Type 0 where
-  pub says : Result (Option Entry) Fault
+  pub says : Result (Option (List ℕ)) Fault
   pub reader : View
 
 abbrev pub moved : View → Entry → State → View
 moved v e t = record { heading = v.heading; log = v.log; cursor = v.cursor + length (bytes_of e); state = t }
 
 abbrev pub advanced : View → Sight → Next
-advanced v (Ok (Some (e, t))) = record { says = Ok (Some e); reader = moved v e t }
+advanced v (Ok (Some (e, t))) = record { says = Ok (Some (record_numbers e)); reader = moved v e t }
 advanced v (Ok None) = record { says = Ok None; reader = v }
 advanced v (Err f) = record { says = Err f; reader = v }
 
@@ -164,13 +164,14 @@ held_as (Ok (Some (r, t))) = Ok (Some (entry r, t))
 held_as (Ok None) = Ok None
 held_as (Err e) = Err (session_fault e)
 
-abbrev pub said : Result (Option Record) RecordFault → Result (Option Entry) Fault
-said (Ok (Some r)) = Ok (Some (entry r))
+-- the record read next, by its mark and fields
+abbrev pub said : Result (Option Record) RecordFault → Result (Option (List ℕ)) Fault
+said (Ok (Some r)) = Ok (Some (record_numbers (entry r)))
 said (Ok None) = Ok None
 said (Err e) = Err (record_fault e)
 
-abbrev pub held_said : Result (Option Record) SessionFault → Result (Option Entry) Fault
-held_said (Ok (Some r)) = Ok (Some (entry r))
+abbrev pub held_said : Result (Option Record) SessionFault → Result (Option (List ℕ)) Fault
+held_said (Ok (Some r)) = Ok (Some (record_numbers (entry r)))
 held_said (Ok None) = Ok None
 held_said (Err e) = Err (session_fault e)
 
