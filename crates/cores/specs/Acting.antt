@@ -1,4 +1,4 @@
--- A request of one core of several, and what it does to the cells and to that core.
+-- Requests by their numbers, and what telling a core does to it and to no other.
 use Rattle.std.specs.Prelude.{◌≡◌, ℕ, ◌+◌, Bool, true, List, [], ◌∷◌, take, drop, nat_lt, slice_index_or, slice_set}
 use Rattle.cores.specs.declared.interface.Request.{Request}
 use Rattle.cores.specs.declared.interface.Request.TheVariants.{Halt, Local, Read, Write, Exchange}

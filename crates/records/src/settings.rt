@@ -1,5 +1,4 @@
-ghost use Rattle.std.specs.Prelude.{◌≡◌, ◌+◌, ◌≤◌};
-ghost use Rattle.records.specs.Format.{end_size};
+ghost use Rattle.std.specs.Prelude.{◌≡◌, ◌≤◌};
 ghost use Rattle.records.specs.Settings.{fits_from, fits, settled_from, settled, can_begin as may_begin, free_behind, no_sizes, passed_by};
 
 use crate::format::END_SIZE;
@@ -38,13 +37,12 @@ impl Sizes {
         self.fit_from(LEAST_OPENED, store_bytes)
     }
 
-    // How many bytes of a log are free behind its end record, which stands at `end`.
+    // How many bytes of a log are free behind its end record, which stands at `end`; 0 where there is no room for it.
     #[inline(always)]
     pub fn free_behind(self, end: usize) -> usize
-        requires { end + end_size ≤ self.log_bytes }
         ensures { result ≡ free_behind self end }
     {
-        self.log_bytes - (end + END_SIZE)
+        self.log_bytes.saturating_sub(end).saturating_sub(END_SIZE)
     }
 }
 
