@@ -14,6 +14,10 @@ use Rattle.recordings.specs.Tracks.{run_of, logs_of}
 abbrev pub arcs_by : Reducer → Rules → Memory → List ℕ → List Arc
 arcs_by R K m u = (recorded R (run_of K m u)).arcs
 
+-- the reducer's numbers behind them
+abbrev pub numbers_by : Reducer → Rules → Memory → List ℕ → Numbers
+numbers_by R K m u = (recorded R (run_of K m u)).numbers
+
 -- of turns of these cores the accepted ones, the newest first
 unfoldable pub accepted_by : Reducer → Rules → Sizes → Memory → List ℕ → List ℕ
 accepted_by R K z m [] = []
@@ -35,4 +39,4 @@ RulesDecide meets =
     (F : Numbers → Numbers) → Decides meets F → (K : Rules) (z : Sizes) (m : Memory) (js : List ℕ) (says : List (List ℕ)) (u : List ℕ) (N : Numbers) (L : List Arc) →
     ByTheRules meets K z m js says u N L →
     let R = by_choice F in
-    (u ≡ accepted_by R K z m js) × (L ≡ arcs_by R K m u) × (says ≡ said_by R K z m js) × (N ≡ (recorded R (run_of K m u)).numbers)
+    (u ≡ accepted_by R K z m js) × (L ≡ arcs_by R K m u) × (says ≡ said_by R K z m js) × (N ≡ numbers_by R K m u)

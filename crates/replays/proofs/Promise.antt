@@ -134,7 +134,9 @@ no_dropped_ordering_was_needed meets bounded next after text w v es t new =
       accepted = rec.tracks.accepted;
       recording = rec.tracks.recording;
       logged = arcs_logged meets (run_of K (start s.cells s.states) s.turns) v.tape.numbers rec.arcs rec.tracks.recording;
-      decided = λ F one. (choice_is_recorded meets F one (run_of K (start s.cells s.states) s.turns) v.tape.numbers rec.arcs rec.tracks.recording).1;
+      decided = λ F one.
+          let p = choice_is_recorded meets F one (run_of K (start s.cells s.states) s.turns) v.tape.numbers rec.arcs rec.tracks.recording in
+          (p.1, p.0);
       cells = rec.tracks.cells;
       states = rec.tracks.states;
       logs = logs_hold meets bounded next after text v r s f o rec;

@@ -9,7 +9,7 @@ use Rattle.records.specs.Settings.{no_sizes, settled, log_of, heading_of}
 use Rattle.records.specs.declared.settings.Sizes.{Sizes}
 use Rattle.recorder.specs.Turns.{World, Answered, Turned, fresh_tape, ready}
 use Rattle.recordings.specs.ByTheRules.{TurnGoes}
-use Rattle.recordings.specs.Decided.{arcs_by}
+use Rattle.recordings.specs.Decided.{arcs_by, numbers_by}
 use Rattle.recordings.specs.Sessions as recorded
 use Rattle.recordings.specs.Tracks.{run_of, body_of}
 use Rattle.reducers.specs.Decided.{Decides}
@@ -108,8 +108,12 @@ pub record RecordedAndReplayed (meets : Meets) (next : List ℕ → List ℕ →
   pub recording : Recording meets (run_of (rules next after text) (start s.cells s.states) s.turns) v.tape.numbers arcs
   -- which arcs these are, by how the reducer meets its bounds, and how each log orders them
   pub logged : ArcsLogged meets (run_of (rules next after text) (start s.cells s.states) s.turns) arcs
-  -- and where its bounds leave one choice, these are the arcs that the definition says
-  pub decided : (F : Numbers → Numbers) → Decides meets F → arcs ≡ arcs_by (by_choice F) (rules next after text) (start s.cells s.states) s.turns
+  -- and where its bounds leave one choice, these are the arcs, and the reducer's numbers, that the definition says
+  pub decided : (F : Numbers → Numbers) → Decides meets F →
+      let R = by_choice F in
+      let K = rules next after text in
+      let m = start s.cells s.states in
+      (arcs ≡ arcs_by R K m s.turns) × (v.tape.numbers ≡ numbers_by R K m s.turns)
   -- cells, states and counts are the plain memory's, and the logs hold exactly those arcs
   pub cells : take v.tape.book.sizes.cells v.cells ≡ (plain (rules next after text) (start s.cells s.states) s.turns).cells
   pub states : take v.tape.book.sizes.cores v.states ≡ (plain (rules next after text) (start s.cells s.states) s.turns).states

@@ -7,7 +7,7 @@ use Rattle.records.specs.declared.settings.Sizes.{Sizes}
 use Rattle.recorder.specs.Refusals.{number_of}
 use Rattle.recorder.specs.Turns.{said}
 use Rattle.recordings.specs.ByTheRules.{ByTheRules, with_refusals}
-use Rattle.recordings.specs.Decided.{arcs_by, accepted_by, said_by}
+use Rattle.recordings.specs.Decided.{arcs_by, numbers_by, accepted_by, said_by}
 use Rattle.recordings.specs.Tracks.{run_of}
 use Rattle.reducers.specs.Decided.{Decides}
 use Rattle.reducers.specs.Numbers.{Numbers, Meets}
@@ -16,7 +16,7 @@ use Rattle.replays.specs.Promise.{LogsHold}
 use Rattle.replays.specs.Replies.{replies, dones, carried_out, NeverStuck}
 use Rattle.runs.specs.Logged.{ArcsLogged}
 use Rattle.runs.specs.Recording.{Arc}
-use Rattle.runs.specs.Reducers.{by_choice, recorded}
+use Rattle.runs.specs.Reducers.{by_choice}
 use Rattle.runs.specs.Replay.{ReplayState}
 use Rattle.sessions.specs.Space.{suffices}
 use Rattle.sessions.specs.declared.buffers.SessionBuffers.{SessionBuffers}
@@ -87,7 +87,7 @@ AsDecided meets K z m turns says numbers accepted arcs =
     (F : Numbers → Numbers) → Decides meets F →
     let R = by_choice F in
     (accepted ≡ accepted_by R K z m (reverse turns)) × (arcs ≡ arcs_by R K m accepted) × (reverse says ≡ said_by R K z m (reverse turns))
-    × (numbers ≡ (recorded R (run_of K m accepted)).numbers)
+    × (numbers ≡ numbers_by R K m accepted)
 
 -- the replay, from the plain memory m on, of the accepted turns and their arcs: opened, stepped, and run to its end
 pub record RecordingReplayed (K : Rules) (z : Sizes) (m : Memory) (accepted : List ℕ) (arcs : List Arc) (steps : List ℕ) (a : Answers) : Type 0 where
