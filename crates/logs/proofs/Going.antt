@@ -102,6 +102,12 @@ module _ (see : View → Sight) (fits : (v : View) (e : Entry) (t : State) → s
   pub round_cursor : (e : Entry) → says ≡ Ok (Some (record_numbers e)) → w.cursor ≡ v.cursor + length (bytes_of e)
   round_cursor e q = ap (λ u. u.cursor) (saw e q).1
 
+  pub round_log : (e : Entry) → says ≡ Ok (Some (record_numbers e)) → w.log ≡ v.log
+  round_log e q = ap (λ u. u.log) (saw e q).1
+
+  pub round_inside : (e : Entry) → says ≡ Ok (Some (record_numbers e)) → v.cursor + length (bytes_of e) ≤ length v.log
+  round_inside e q = omega (arith, size_pos e, fits v e w.state (saw e q).0)
+
   pub round_again : {Y : Type 0} (G : Reading → Y) (all : Y) → Going G see all v → (e : Entry) → says ≡ Ok (Some (record_numbers e)) → (H : Reading → Y) → ((x : Reading) → G (prefixed e x) ≡ H x) → Going H see all w
   round_again G all g e q H past =
       let p = saw e q in

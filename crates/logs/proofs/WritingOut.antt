@@ -7,7 +7,7 @@ use Rattle.records.specs.declared.settings.Sizes.{Sizes}
 use Rattle.records.specs.Faults.{Fault, bad_setting}
 use Rattle.records.specs.Format.{Entry, bytes_of, written, splice}
 use Rattle.records.specs.Settings.{least_opened, fits, log_of, heading_of}
-use Rattle.records.specs.Writing.{Wrote, write_at}
+use Rattle.records.specs.Writing.{Wrote, put_at, behind, write_at}
 use Rattle.records.proofs.Splices.{splice_none, splice_splice, length_splice, take_front, drop_behind, drop_within, take_within}
 use Rattle.logs.specs.Lawful.{Accepted, whole}
 use Rattle.logs.specs.Session.{read_log, session, outcome}
@@ -39,9 +39,10 @@ log_inside i j L h = let m : suc i * L ≤ j * L = mul-le-mul_right L h in rw (�
 
 -- one record after another is all of them at once
 module _ (z : Sizes) (j : ℕ) where
-  written_at : (out : List ℕ) (at : ℕ) (e : Entry) → fits (length out) z ≡ true → j < z.cores → at + length (bytes_of e) ≤ z.log_bytes → (write_at out z j at e).store ≡ splice (j * z.log_bytes + at) (bytes_of e) out
+  pub written_at : (out : List ℕ) (at : ℕ) (e : Entry) → fits (length out) z ≡ true → j < z.cores → behind at e ≤ z.log_bytes →
+      (write_at out z j at e).store ≡ put_at out z j at e
   written_at out at e f h room =
-      ap (λ b. (cond {A = Wrote} b (record { says = 0 ∷ (at + length (bytes_of e)) ∷ []; store = splice (j * z.log_bytes + at) (bytes_of e) out }) (record { says = bad_setting; store = out })).store)
+      ap (λ b. (cond {A = Wrote} b (record { says = 0 ∷ behind at e ∷ []; store = put_at out z j at e }) (record { says = bad_setting; store = out })).store)
       (and_from (fits (length out) z) _ f (and_from (ltb j z.cores) _ (lt-ltb j z.cores h) (le-leb (at + length (bytes_of e)) z.log_bytes room)))
 
   copied_is : (es : List Entry) (out : List ℕ) (at : ℕ) → fits (length out) z ≡ true → j < z.cores → j * z.log_bytes + z.log_bytes ≤ length out → at + length (written es) ≤ z.log_bytes →

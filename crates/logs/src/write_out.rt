@@ -1,5 +1,6 @@
-ghost use Rattle.std.specs.Prelude.{◌≡◌, [], ◌∷◌};
+ghost use Rattle.std.specs.Prelude.{◌≡◌, ◌<◌, ◌≤◌, true, [], ◌∷◌, length};
 ghost use Rattle.records.specs.Reading.{view};
+ghost use Rattle.records.specs.Settings.{fits};
 ghost use Rattle.logs.specs.Session.{done_as};
 ghost use Rattle.logs.specs.Walk.{reading_from};
 ghost use Rattle.logs.specs.WriteOut.{copied, all_copied, write_session, Restored};
@@ -9,23 +10,38 @@ use records::faults::Refusal;
 use records::reading::Reader;
 use records::settings::Sizes;
 use records::store::Logs;
-use records::writing::write_record;
+use records::writing::Placement;
 
-// Writes each record that is read to its place in `out`, up to the end or the first fault.
+// Puts each record that is read to its place in `out`, up to the end or the first fault.
 fn copy_records(from: Reader, sizes: Sizes, core: usize, out: &mut [u8])
-    ensures { out.new ≡ copied sizes core from.entry.cursor (reading_from (view from.entry)).entries out.old }
+    requires fitting { fits (length out.old) sizes ≡ true }
+    requires inside { core < sizes.cores }
+    requires short { length (view from).log ≤ sizes.log_bytes }
+    ensures {
+        out.new ≡ copied sizes core from.entry.cursor (reading_from (view from.entry)).entries out.old
+    }
 {
     let mut reader = from;
     let mut offset = reader.offset();
     while let Ok(Some(record)) = reader.next_record() {
-        let _ = write_record(out, sizes, core, offset, record);
-        offset = reader.offset();
+        let placement = Placement {
+            store: out,
+            sizes,
+            core,
+            offset,
+            record,
+        };
+        offset = placement.put();
     }
 }
 
 // Writes the records of every log.
 fn copy_logs(logs: Logs, out: &mut [u8])
-    ensures { out.new ≡ all_copied logs.entry.store.now logs.entry.sizes logs.entry.sizes.cores 0 out.old }
+    requires { fits (length out.old) logs.sizes ≡ true }
+    ensures {
+        let z = logs.entry.sizes in
+        out.new ≡ all_copied logs.entry.store.now z z.cores 0 out.old
+    }
 {
     for core in 0..logs.cores() {
         // each core below them has a log

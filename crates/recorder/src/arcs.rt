@@ -13,7 +13,7 @@ use accesses::history::History;
 use cores::interface::Request;
 use records::format::{Arc, Record};
 use records::settings::Sizes;
-use records::writing::put_in_log;
+use records::writing::Placement;
 use reducers::interface::Reducer;
 
 // The offset at which the next record of a log goes, and how many arcs the log has.
@@ -45,9 +45,14 @@ impl CoreLog<'_> {
         ensures offset { self.new.tail.offset ≡ self.old.tail.offset + length (bytes_of (entry «record»)) }
         ensures arcs { self.new.tail.arcs ≡ self.old.tail.arcs }
     {
-        let core = usize::from(self.by.core);
-        let at = self.tail.offset;
-        self.tail.offset = put_in_log(self.store, self.sizes, core, at, record);
+        let placement = Placement {
+            store: self.store,
+            sizes: self.sizes,
+            core: usize::from(self.by.core),
+            offset: self.tail.offset,
+            record,
+        };
+        self.tail.offset = placement.put();
     }
 
     // Writes the end record: as many instructions as the latest one's count.

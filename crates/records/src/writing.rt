@@ -1,7 +1,7 @@
-ghost use Rattle.std.specs.Prelude.{◌≡◌, ◌+◌, ◌*◌, ◌<◌, ◌≤◌, true, length};
+ghost use Rattle.std.specs.Prelude.{◌≡◌, ◌+◌, ◌<◌, ◌≤◌, true, length};
 ghost use Rattle.records.specs.Format.{entry, bytes_of, splice};
 ghost use Rattle.records.specs.Settings.{fits};
-ghost use Rattle.records.specs.Writing.{behind_as, write_at};
+ghost use Rattle.records.specs.Writing.{put_at, behind, behind_as, write_at};
 
 use crate::faults::Refusal;
 use crate::format::{Record, end_bytes};
@@ -29,23 +29,38 @@ fn put_record(store: &mut [u8], at: usize, record: Record)
     }
 }
 
-// Puts `record` at an offset of a core's log that has room for it there, and gives the offset behind it.
-#[inline(always)]
-pub fn put_in_log(
-    store: &mut [u8],
-    sizes: Sizes,
-    core: usize,
-    offset: usize,
-    record: Record,
-) -> usize
-    requires fitting { fits (length store.old) sizes ≡ true }
-    requires inside { core < sizes.cores }
-    requires room { offset + length (bytes_of (entry «record»)) ≤ sizes.log_bytes }
-    ensures bytes { store.new ≡ splice (core * sizes.log_bytes + offset) (bytes_of (entry «record»)) store.old }
-    ensures behind { result ≡ offset + length (bytes_of (entry «record»)) }
-{
-    put_record(store, core * sizes.log_bytes + offset, record);
-    offset + record.size()
+// A record, and where in a store it goes: an offset of a core's log that has room for it there.
+pub struct Placement<'a> {
+    pub store: &'a mut [u8],
+    pub sizes: Sizes,
+    pub core: usize,
+    pub offset: usize,
+    pub record: Record,
+    ghost fitting: { fits (length store.now) sizes ≡ true },
+    ghost inside: { core < sizes.cores },
+    ghost room: { offset + length (bytes_of (entry «record»)) ≤ sizes.log_bytes },
+}
+
+impl Placement<'_> {
+    // Puts the record there, and gives the offset behind it.
+    #[inline(always)]
+    pub fn put(self) -> usize
+        ensures bytes {
+            let p = self.entry in
+            self.exit.0.now ≡ put_at p.store.now p.sizes p.core p.offset (entry p.record)
+        }
+        ensures behind { result ≡ behind self.entry.offset (entry self.entry.record) }
+    {
+        let Placement {
+            store,
+            sizes,
+            core,
+            offset,
+            record,
+        } = self;
+        put_record(store, core * sizes.log_bytes + offset, record);
+        offset + record.size()
+    }
 }
 
 // Writes `record` at an offset of a core's log, and answers the offset behind it;
@@ -58,7 +73,10 @@ pub fn write_record(
     offset: usize,
     record: Record,
 ) -> Result<usize, Refusal>
-    ensures { record { says = behind_as result; store = store.new } ≡ write_at store.old sizes core offset (entry «record») }
+    ensures {
+        record { says = behind_as result; store = store.new }
+        ≡ write_at store.old sizes core offset (entry «record»)
+    }
 {
     let size = record.size();
     if !sizes.fit(store.len())
@@ -68,6 +86,12 @@ pub fn write_record(
     {
         return Err(Refusal::BadSetting);
     }
-    put_record(store, core * sizes.log_bytes + offset, record);
-    Ok(offset + size)
+    let placement = Placement {
+        store,
+        sizes,
+        core,
+        offset,
+        record,
+    };
+    Ok(placement.put())
 }
