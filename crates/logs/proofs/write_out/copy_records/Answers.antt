@@ -39,10 +39,8 @@ loop-record-init c = (
     reading_starts (λ x. copied c.args.sizes c.args.core c.args.from.cursor x.entries c.args.out.now) (view c.args.from),
   )
 
-pub invariant_of-placement : goal.invariant_of-placement
-invariant_of-placement c =
-    let round = (goal.at.invariant_of-placement c).In-Ok-Some in
-    record { fitting = fitting round; inside = c.requires.inside; room = room round }
+pub invariant_of-placement-clause-room : goal.invariant_of-placement-clause-room
+invariant_of-placement-clause-room c = room (goal.at.invariant_of-placement-clause-room c).In-Ok-Some
 
 pub loop-record-smaller : goal.loop-record-smaller
 loop-record-smaller c =
