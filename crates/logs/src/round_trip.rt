@@ -1,7 +1,6 @@
-ghost use Rattle.logs.specs.RoundTrip.{ReadsBack, WorkedBytes};
+ghost use Rattle.logs.specs.RoundTrip.{ReadsBack};
 
 // Holds the theorem that a log written as a head, arcs that obey the rules and an end reads back as exactly those.
 pub fn written_logs_read_back()
-    ensures reads_back { ReadsBack }
-    ensures worked { WorkedBytes }
+    ensures { ReadsBack }
 {}

@@ -1,4 +1,4 @@
--- Worked runs, computed; and the run that the knowledge of today gets wrong.
+-- The run that the knowledge of today gets wrong, computed.
 use Rattle.std.proofs.Common.{◌≡◌, ◌≤◌, ◌⊎◌, List, [], ◌∷◌, get_or, sym, refl, ap, ◌∙◌, subst, inl, inr, arith}
 use native.Mathlib.Decide.{ℕ_discrete, dec_le}
 use Rattle.cores.specs.Memory.{outcome, effect, plain}
@@ -7,13 +7,9 @@ use Rattle.runs.specs.Replay.{replayed}
 use Rattle.runs.specs.Runs.{read, write, ev, Instr, Conflict, program, link, chain}
 use Rattle.runs.specs.Recording.{Arc, arc, Reach}
 use Rattle.runs.specs.Reducers.{recorded, exact}
-use Rattle.runs.specs.Worked.{script, late_text, late_begun, late_turns, at, LoggedArcs, ReplayedFirstRun, today, late_run, TodayLosesAnOrdering}
+use Rattle.runs.specs.Worked.{script, late_text, late_begun, late_turns, at, today, late_run, TodayLosesAnOrdering}
 use Rattle.runs.proofs.NoOrderingLost.{no_ordering_lost}
 use Rattle.runs.proofs.RecordingsExist.{recordings_exist}
-
-pub logged_arcs : LoggedArcs
-unfolding ℕ_discrete dec_le
-logged_arcs = (refl, refl, refl, refl, refl, refl, refl, refl, refl)
 
 abbrev late_arcs : List Arc
 late_arcs = arc (at 0 1) (at 2 1) ∷ arc (at 1 1) (at 0 2) ∷ []
@@ -89,7 +85,3 @@ today_loses_an_ordering = record {
       ((no_ordering_lost late_run (recorded today late_run).numbers (recorded today late_run).arcs (recordings_exist.0 today k late_run) (at 1 1) (at 2 2)).1
       (link in_conflict));
 }
-
-pub replayed_first_run : ReplayedFirstRun
-unfolding ℕ_discrete dec_le outcome effect
-replayed_first_run = record { accepted = (refl, (refl, (refl, (refl, (refl, tt))))); is_first = refl; waits = refl; ends = refl }

@@ -1,65 +1,21 @@
--- Runs worked through: the arcs that each reducer logs, the newest first.
+-- A run worked through that the source core's knowledge of today gets wrong; arcs are the newest first.
 use Rattle.std.specs.Prelude.{◌≡◌, ℕ, max, cond, List, [], ◌∷◌, ◌==◌, slice_index_or}
-use Rattle.std.proofs.Math.Option.{some}
 use Rattle.cores.specs.Script.{script_next, script_after}
-use Rattle.cores.specs.Memory.{Rules, rules, Memory, start, plain, Accepted}
+use Rattle.cores.specs.Memory.{Rules, rules, Memory, start, plain}
 use Rattle.reducers.specs.Numbers.{◌⊑◌, noted}
 use Rattle.runs.specs.Runs.{read, write, ev, Run, Instr, Conflict}
 use Rattle.runs.specs.Recording.{arc, Reach}
-use Rattle.runs.specs.Reducers.{Reducer, Keeps, recorded, exact, pairwise, keep_all}
+use Rattle.runs.specs.Reducers.{Reducer, Keeps, recorded, exact}
 use Rattle.runs.specs.PlainRun.{run}
-use Rattle.runs.specs.Replay.{waiting, replayed}
+use Rattle.runs.specs.Replay.{replayed}
 
 -- instruction b of core j
 abbrev pub at : ℕ → ℕ → Instr
 at j b = record { core = j; count = b }
 
--- 0:1 writes place 0; 1:1 reads it; 1:2 writes place 1; 2:1 reads it; 2:2 writes place 0
-abbrev pub first_run : Run
-first_run = ev 2 (write 0) ∷ ev 2 (read 1) ∷ ev 1 (write 1) ∷ ev 1 (read 0) ∷ ev 0 (write 0) ∷ []
-
--- 0:1 reads place 0; 0:2 writes place 1; 1:1 reads it; 1:2 reads place 0; 2:1 writes it
-abbrev pub readers_run : Run
-readers_run = ev 2 (write 0) ∷ ev 1 (read 0) ∷ ev 1 (read 1) ∷ ev 0 (write 1) ∷ ev 0 (read 0) ∷ []
-
--- 0:1 writes place 0; 0:2 and 1:1 read it; 1:2 writes it
-abbrev pub own_read_run : Run
-own_read_run = ev 1 (write 0) ∷ ev 1 (read 0) ∷ ev 0 (read 0) ∷ ev 0 (write 0) ∷ []
-
-abbrev pub LoggedArcs : Type 0
-LoggedArcs =
-    ((recorded exact first_run).arcs ≡ arc (at 1 2) (at 2 1) ∷ arc (at 0 1) (at 1 1) ∷ [])
-    × ((recorded pairwise first_run).arcs ≡ arc (at 0 1) (at 2 2) ∷ arc (at 1 2) (at 2 1) ∷ arc (at 0 1) (at 1 1) ∷ [])
-    × ((recorded keep_all first_run).arcs ≡ arc (at 0 1) (at 2 2) ∷ arc (at 1 1) (at 2 2) ∷ arc (at 1 2) (at 2 1) ∷ arc (at 0 1) (at 1 1) ∷ [])
-    × ((recorded exact readers_run).arcs ≡ arc (at 1 2) (at 2 1) ∷ arc (at 0 2) (at 1 1) ∷ [])
-    × ((recorded pairwise readers_run).arcs ≡ arc (at 0 1) (at 2 1) ∷ arc (at 1 2) (at 2 1) ∷ arc (at 0 2) (at 1 1) ∷ [])
-    × ((recorded keep_all readers_run).arcs ≡ arc (at 0 1) (at 2 1) ∷ arc (at 1 2) (at 2 1) ∷ arc (at 0 2) (at 1 1) ∷ [])
-    × ((recorded exact own_read_run).arcs ≡ arc (at 0 2) (at 1 2) ∷ arc (at 0 1) (at 1 1) ∷ [])
-    × ((recorded pairwise own_read_run).arcs ≡ arc (at 0 2) (at 1 2) ∷ arc (at 0 1) (at 1 1) ∷ [])
-    × ((recorded keep_all own_read_run).arcs ≡ arc (at 0 2) (at 1 2) ∷ arc (at 0 1) (at 1 1) ∷ [])
-
 -- the rules of script cores over a text
 abbrev pub script : List ℕ → Rules
 script text = rules script_next script_after text
-
-abbrev pub first_text : List ℕ
-first_text =
-    2 ∷ 0 ∷ 0 ∷ 7 ∷ 255 ∷ 0 ∷ 0 ∷ 0 ∷ 1 ∷ 0 ∷ 0 ∷ 0 ∷ 2 ∷ 1 ∷ 0 ∷ 9 ∷ 255 ∷ 0 ∷ 0 ∷ 0
-    ∷ 1 ∷ 1 ∷ 0 ∷ 0 ∷ 2 ∷ 0 ∷ 0 ∷ 4 ∷ 255 ∷ 0 ∷ 0 ∷ 0 ∷ []
-
-abbrev pub begun : Memory
-begun = start (0 ∷ 0 ∷ []) ((0 ∷ 0 ∷ []) ∷ (2 ∷ 0 ∷ []) ∷ (5 ∷ 0 ∷ []) ∷ [])
-
-abbrev pub core_turns : List ℕ
-core_turns = 2 ∷ 2 ∷ 1 ∷ 1 ∷ 0 ∷ []
-
--- Their turns make the first run. Over its exact arcs a first step of core 2 waits for 1:2, and steps in another order, with
--- waits, end with the same cells.
-pub record ReplayedFirstRun : Type 0 where
-  pub accepted : Accepted (script first_text) begun core_turns
-  pub is_first : run (λ c. c) (script first_text) begun core_turns ≡ first_run
-  pub waits : waiting (recorded exact first_run).arcs begun.counts 2 ≡ some (arc (at 1 2) (at 2 1))
-  pub ends : (replayed (script first_text) begun core_turns (recorded exact first_run).arcs (2 ∷ 0 ∷ 2 ∷ 1 ∷ 2 ∷ 1 ∷ 0 ∷ 1 ∷ 2 ∷ [])).memory.cells ≡ 4 ∷ 9 ∷ []
 
 -- the error of recorders: the source core's knowledge of today in place of its stamp
 abbrev pub today : Reducer

@@ -6,7 +6,7 @@ ghost use Rattle.cores.specs.Memory.{Rules, rules};
 ghost use Rattle.reducers.specs.Numbers.{◌⊑◌};
 ghost use Rattle.runs.specs.Theorems.{NoOrderingLost, LogsAreLawful, LogsFew, ExactLogsTheReduction, KnownMeansBefore, ExactIsLeast, DroppingLosesAnOrdering, CountsAgree, ReplayAgrees, ReplayOfARecordingAgrees, RecordingsExist, ThreeReducersAreBounded, ThreeReducersAreDecided, WaitsForSources, OwnLogIsEnough, PlacesKeepTheOrder, NewestFirst, CandidatesByCores};
 ghost use Rattle.runs.specs.Logged.{KeepAllLogsEveryCandidate, PairwiseLogsWhatIsNewer, TargetsAreLatestFirst};
-ghost use Rattle.runs.specs.Worked.{LoggedArcs, ReplayedFirstRun, TodayLosesAnOrdering};
+ghost use Rattle.runs.specs.Worked.{TodayLosesAnOrdering};
 
 use cores::interface::Core;
 use reducers::interface::Reducer;
@@ -124,16 +124,6 @@ pub fn candidates_are_newest_first()
 // Asking what is remembered of each core and ordering by position finds them.
 pub fn candidates_are_found_by_cores()
     ensures { CandidatesByCores }
-{}
-
-// The arcs of three runs worked through, with each of the three reducers.
-pub fn worked_runs_log_these_arcs()
-    ensures { LoggedArcs }
-{}
-
-// The first of them as turns of three cores, and a replay of it that waits.
-pub fn the_first_run_replays()
-    ensures { ReplayedFirstRun }
 {}
 
 // With the source core's knowledge of today in place of its stamp, a conflict of a given run is not ordered.

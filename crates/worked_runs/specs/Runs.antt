@@ -12,7 +12,7 @@ use Rattle.reducers.specs.Rows.{known_only}
 use Rattle.replayer.specs.Runs.{ran}
 use Rattle.replayer.specs.Steps.{Opened, Outcome, started, reopened, stepped}
 use Rattle.worked_runs.specs.Answers.{TurnsDone, TurnsLeave, TurnsRefused, TurnsRefusedInOrder, Openings, StepsDone, StepsRefused, RunsEnd, CircleGoesUp, DoneTargetEndsTheGroup, Named}
-use Rattle.worked_runs.specs.Scripts.{item, script, sizes_of, from, at_begin, after_turns, Logged}
+use Rattle.worked_runs.specs.Scripts.{item, script, sizes_of, from, at_begin, after_turns, Logged, standing, after_steps}
 
 -- three cores, two cells: 0:1 writes 7 to cell 0, 1:1 reads it, 1:2 writes 9 to cell 1, 2:1 reads it, 2:2 writes 4 to cell 0
 abbrev three_text : List ℕ
@@ -51,7 +51,7 @@ Bytes =
 abbrev opened_again : Opened
 opened_again = reopened (started no_sizes no_counts) (sizes_of 3 2 40) 3 2 (first_run exactly).tape.store
 
--- a first step of core 2 waits for 1:2, and a run finishes with 5 steps and the recording's cells
+-- a first step of core 2 waits for 1:2, and a run finishes with 5 steps and the recording's cells; so do steps in another order, with waits
 abbrev WaitsAndFinishes : Type 0
 WaitsAndFinishes =
     let store = (first_run exactly).tape.store in
@@ -59,24 +59,33 @@ WaitsAndFinishes =
     (opened_again.says ≡ 0 ∷ [])
     × ((stepped script_next script_after three_text opened_again.replayer (0 ∷ 0 ∷ []) three_states store 2).says ≡ 6 ∷ 1 ∷ 2 ∷ [])
     × (run.says ≡ 0 ∷ 5 ∷ []) × (run.cells ≡ 4 ∷ 9 ∷ [])
+    × ((after_steps three_text store (standing opened_again.replayer (0 ∷ 0 ∷ []) three_states) (2 ∷ 1 ∷ 0 ∷ 1 ∷ 2 ∷ 1 ∷ 2 ∷ 0 ∷ 2 ∷ [])).cells ≡ 4 ∷ 9 ∷ [])
 
 -- 0:1 reads cell 0, 0:2 writes cell 1, 1:1 reads cell 1, 1:2 reads cell 0, 2:1 writes cell 0
-abbrev between_run : World
-between_run =
-    after_turns exactly (script (item 1 0 0 (item 2 1 1 (item 1 1 0 (item 1 0 0 (item 2 0 1 []))))))
+abbrev between_run : (Numbers → Numbers) → World
+between_run F =
+    after_turns F (script (item 1 0 0 (item 2 1 1 (item 1 1 0 (item 1 0 0 (item 2 0 1 []))))))
     (at_begin (sizes_of 3 2 40) ((0 ∷ 0 ∷ []) ∷ (2 ∷ 0 ∷ []) ∷ (4 ∷ 0 ∷ []) ∷ [])) (0 ∷ 0 ∷ 1 ∷ 1 ∷ 2 ∷ [])
 
+-- pairwise and keep-all add 0:1 to 2:1
 abbrev ReadBetween : Type 0
-ReadBetween = Logged between_run 0 [] 2 × Logged between_run 1 (from 0 2 1 ∷ []) 2 × Logged between_run 2 (from 1 2 1 ∷ []) 1
+ReadBetween =
+    Logged (between_run exactly) 0 [] 2 × Logged (between_run exactly) 1 (from 0 2 1 ∷ []) 2 × Logged (between_run exactly) 2 (from 1 2 1 ∷ []) 1
+    × Logged (between_run known_only) 0 [] 2 × Logged (between_run known_only) 1 (from 0 2 1 ∷ []) 2 × Logged (between_run known_only) 2 (from 1 2 1 ∷ from 0 1 1 ∷ []) 1
+    × Logged (between_run nothing) 0 [] 2 × Logged (between_run nothing) 1 (from 0 2 1 ∷ []) 2 × Logged (between_run nothing) 2 (from 1 2 1 ∷ from 0 1 1 ∷ []) 1
 
 -- 0:1 writes cell 0, 0:2 reads it, 1:1 reads it, 1:2 writes it
-abbrev own_run : World
-own_run =
-    after_turns exactly (script (item 2 0 1 (item 1 0 0 (item 1 0 0 (item 2 0 2 [])))))
+abbrev own_run : (Numbers → Numbers) → World
+own_run F =
+    after_turns F (script (item 2 0 1 (item 1 0 0 (item 1 0 0 (item 2 0 2 [])))))
     (at_begin (sizes_of 2 1 40) ((0 ∷ 0 ∷ []) ∷ (2 ∷ 0 ∷ []) ∷ [])) (0 ∷ 0 ∷ 1 ∷ 1 ∷ [])
 
+-- the same with each reducer
 abbrev OwnRead : Type 0
-OwnRead = Logged own_run 0 [] 2 × Logged own_run 1 (from 0 1 1 ∷ from 0 2 2 ∷ []) 2
+OwnRead =
+    Logged (own_run exactly) 0 [] 2 × Logged (own_run exactly) 1 (from 0 1 1 ∷ from 0 2 2 ∷ []) 2
+    × Logged (own_run known_only) 0 [] 2 × Logged (own_run known_only) 1 (from 0 1 1 ∷ from 0 2 2 ∷ []) 2
+    × Logged (own_run nothing) 0 [] 2 × Logged (own_run nothing) 1 (from 0 1 1 ∷ from 0 2 2 ∷ []) 2
 
 -- with three cores a log of 26 bytes takes a first access, and one of 25 is full
 abbrev LeastRoom : Type 0

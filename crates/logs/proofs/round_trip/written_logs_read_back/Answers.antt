@@ -6,8 +6,5 @@ use Rattle.records.specs.Format.{written}
 use Rattle.logs.proofs.round_trip.written_logs_read_back.Goals as goal
 
 pub returns : goal.returns
-returns c = record {
-  reads_back = λ g arcs n behind four few l r.
-      holds_read g (written (whole g arcs n) ++ behind) arcs n four few (record { lawful = l; reached = r; rest = behind; bytes = refl });
-  worked = refl;
-}
+returns c = λ g arcs n behind four few l r.
+    holds_read g (written (whole g arcs n) ++ behind) arcs n four few (record { lawful = l; reached = r; rest = behind; bytes = refl })
