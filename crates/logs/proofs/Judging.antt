@@ -1,5 +1,5 @@
 -- Reading a log to its end or first fault: the whole log holds, or the records before the fault are lawful and what stands there breaks the named cause.
-use Rattle.std.proofs.Common.{◌≡◌, ℕ, zero, suc, ◌+◌, ◌-◌, ◌/◌, ◌<◌, ◌≤◌, Bool, true, false, cond, ◌&&◌, eqb, leb, List, [], ◌∷◌, ◌++◌, length, drop, set, Some, Ok, Err, Result, sym, refl, ap, ◌∙◌, subst, inl, inr, arith}
+use Rattle.std.proofs.Common.{◌≡◌, ℕ, zero, suc, ◌+◌, ◌-◌, ◌/◌, ◌<◌, ◌≤◌, Bool, true, false, cond, ◌&&◌, ◌⊎◌, eqb, leb, List, [], ◌∷◌, ◌++◌, length, drop, set, Some, Ok, Err, Result, sym, refl, ap, ◌∙◌, subst, inl, inr, arith}
 use Rattle.std.specs.List.{AllByRecursion}
 use Rattle.std.proofs.lemmas.List.{drop-drop, drop_at, append_assoc, append-nil, length-append, length-drop}
 use Rattle.std.proofs.lemmas.Bool.{and_parts, eqb-true, eqb-false, leb-true, leb-false}
@@ -10,12 +10,18 @@ use Rattle.records.specs.Faults.{Fault}
 use Rattle.records.specs.Format.{LogArc, Entry, head, arc, end, bytes_of, written}
 use Rattle.records.specs.Reading.{broken, entry_at, arc_stands, one_more, no_targets, passed, judged, View, moved}
 use Rattle.records.proofs.Looking.{entry_fits, size_pos}
-use Rattle.logs.specs.Lawful.{Between, arcs_in, Body, Lawful, front, whole, BadEnd, wrong_arcs, too_few_instructions, Breaks, no_head, head_later, bad_arc, bad_end, Front, Judged}
+use Rattle.logs.specs.Lawful.{Between, arcs_in, Body, Lawful, front, whole, BadEnd, wrong_arcs, too_few_instructions, Holds, Breaks, no_head, head_later, bad_arc, bad_end, Front, Broken}
 use Rattle.logs.specs.Walk.{Reading, prefixed, stopped, walk, look, reading_from, at_front}
 use Rattle.logs.proofs.Arcs.{arcs_append}
 use Rattle.logs.proofs.Bytes.{octets_drop, written_back, unread}
 use Rattle.logs.proofs.Going.{walk_some, walk_fault}
 use Rattle.logs.proofs.Rules.{Knows, knows_none, knows_push, stands_follows, fails_breaks, lawful_push, all_push, all_map, any_map}
+
+-- what reading a log gives: all its records and instructions, or the records before the first fault
+abbrev pub Judged : Heading → List ℕ → Reading → Type 0
+Judged g log r =
+    ((body : List Entry) × (n : ℕ) × (r ≡ record { entries = whole g body n; verdict = Ok n }) × Holds g log body n)
+    ⊎ ((before : List Entry) × (f : Fault) × (r ≡ record { entries = before; verdict = Err f }) × Broken g log before f)
 
 -- records in front of what reading on gives
 abbrev pub in_front : List Entry → Reading → Reading

@@ -10,12 +10,12 @@ use Rattle.records.specs.Faults.{Fault, bad_setting, log_fault}
 use Rattle.records.specs.Format.{LogArc, Entry, head, arc, end, written}
 use Rattle.records.specs.Reading.{broken}
 use Rattle.records.specs.Settings.{fits, log_of, heading_of}
-use Rattle.logs.specs.Lawful.{arcs_in, Holds, Within, LogHolds, Broken, Judged, Accepted, FirstFault, in_log, at_source, Exactly, front, whole}
+use Rattle.logs.specs.Lawful.{arcs_in, Holds, Within, LogHolds, Broken, Accepted, FirstFault, in_log, at_source, Exactly, front, whole}
 use Rattle.logs.specs.Session.{read_log, hold_log, onward, gathered, tested, session, no_counts, outcome, read_session}
 use Rattle.logs.specs.Walk.{Reading}
 use Rattle.logs.proofs.Arcs.{arcs_few}
 use Rattle.logs.proofs.Bytes.{octets_of, octets_take, octets_drop}
-use Rattle.logs.proofs.Judging.{read_judged}
+use Rattle.logs.proofs.Judging.{Judged, read_judged}
 use Rattle.logs.proofs.Paths.{Held, holds_read, holds_held, holds_few, fewer_records}
 use Rattle.logs.proofs.Rules.{all_alike}
 

@@ -1,5 +1,5 @@
 -- The rules of a log, and of all logs together, in words: relations on records and those before them.
-use Rattle.std.specs.Prelude.{◌≡◌, ℕ, ◌<◌, ◌≤◌, true, false, ◌⊎◌, List, [], ◌∷◌, ◌++◌, length, Ok, Err, ◌≢◌, slice_index}
+use Rattle.std.specs.Prelude.{◌≡◌, ℕ, ◌<◌, ◌≤◌, true, false, ◌⊎◌, List, [], ◌∷◌, ◌++◌, length, ◌≢◌, slice_index}
 use Rattle.std.specs.List.{AllByRecursion}
 use Rattle.records.specs.declared.settings.Sizes.{Sizes}
 use Rattle.records.specs.declared.settings.Heading.{Heading}
@@ -7,7 +7,6 @@ use Rattle.records.specs.Faults.{Fault, bad_setting, log_fault}
 use Rattle.records.specs.Format.{LogArc, Entry, head, arc, end, bytes_of, written}
 use Rattle.records.specs.Reading.{broken}
 use Rattle.records.specs.Settings.{fits, log_of, heading_of}
-use Rattle.logs.specs.Walk.{Reading}
 
 abbrev pub Any : (LogArc → Type 0) → List LogArc → Type 0
 Any P [] = ⊥
@@ -131,12 +130,6 @@ pub data FirstFault (store : List ℕ) (z : Sizes) : Fault → Type 0 where
       ((i : ℕ) → i < z.cores → LogHolds store z counts bodies i) → ((i : ℕ) → i < j → Within counts (arcs_in (bodies i))) →
       bodies j ≡ before ++ (arc a ∷ behind) → Within counts (arcs_in before) → slice_index counts a.source < a.count →
       FirstFault store z (broken 3 j (length (written (front (heading_of z j) before))) 6)
-
--- what reading a log gives: all its records and instructions, or the records before the first fault
-abbrev pub Judged : Heading → List ℕ → Reading → Type 0
-Judged g log r =
-    ((body : List Entry) × (n : ℕ) × (r ≡ record { entries = whole g body n; verdict = Ok n }) × Holds g log body n)
-    ⊎ ((before : List Entry) × (f : Fault) × (r ≡ record { entries = before; verdict = Err f }) × Broken g log before f)
 
 -- what reading all logs may say, in words: accepted exactly if the logs hold, refused with 9 only for the first fault, and with 8 exactly if the sizes do not fit
 pub record Exactly (store : List ℕ) (z : Sizes) (says : List ℕ) : Type 0 where
