@@ -3,6 +3,7 @@ ghost use Rattle.logs.specs.Lawful.{Accepted};
 ghost use Rattle.logs.specs.Session.{no_counts, done_as};
 ghost use Rattle.records.specs.Settings.{no_sizes, SurplusKept};
 ghost use Rattle.replayer.specs.Answers.{step_numbers, run_numbers};
+ghost use Rattle.replayer.specs.Damaged.{StepExactly};
 ghost use Rattle.replayer.specs.Steps.{started, reopened, Bars, Grouped, WentOn, stepped, StepKept};
 ghost use Rattle.replayer.specs.Runs.{left, session, circled, ran, RunKept};
 
@@ -145,6 +146,8 @@ impl Replayer {
         j: usize,
     ) -> Result<Done, StepRefusal>
         ensures outcome { record { says = step_numbers result; replayer = self.new; cells = cells.new; states = map K.Core.state cores.new } ≡ stepped K.Core.next K.Core.after text.now self.old cells.old (map K.Core.state cores.old) store.now j }
+        ensures exactly { StepExactly self.old (length cores.old) (length cells.old) store.now j
+            (step_numbers result) }
         ensures others { StepKept result j cores.old cores.new }
         ensures surplus { SurplusKept self.old.sizes cores.old cores.new cells.old cells.new }
     {

@@ -5,6 +5,7 @@ use Rattle.cores.proofs.Requests.{same_request}
 use Rattle.cores.proofs.Surplus.{stored_surplus, drop_further}
 use Rattle.replayer.specs.Answers.{step_refusal, step_numbers}
 use Rattle.replayer.specs.Steps.{refused}
+use Rattle.replayer.proofs.FirstFaults.{step_says_exactly}
 use Rattle.replayer.proofs.Steps.{barred, stays, done}
 use Rattle.replayer.proofs.replay.Replayer.step.Goals as goal
 
@@ -50,3 +51,13 @@ returns-clause-surplus g c =
       drop_further (a.j + 1) a.self.now.sizes.cores (set a.cores.now a.j c.tell.new.self) a.cores.now (omega (arith, c.in_ok-group.ensures.1.known)) (others_kept a.cores.now a.j c.tell.new.self).1,
       ap (drop a.self.now.sizes.cells) c.act-number.ensures.stores ∙ stored_surplus c.ask-request.result a.self.now.sizes.cells a.cells.now (sym c.in_ok-count.ensures.2),
     )
+
+-- each in words
+pub returns-in_err-group-clause-exactly : goal.returns-in_err-group-clause-exactly
+returns-in_err-group-clause-exactly g c = step_says_exactly g.K.Core.state g.K.Core.next g.K.Core.after c.args.text.now c.args.self.now c.args.cells.now c.args.cores.now c.args.store.now c.args.j _ c.type_inv.store (ap (λ o. o.says) (returns-in_err-group-clause-outcome g c))
+
+pub returns-in_err-count-clause-exactly : goal.returns-in_err-count-clause-exactly
+returns-in_err-count-clause-exactly g c = step_says_exactly g.K.Core.state g.K.Core.next g.K.Core.after c.args.text.now c.args.self.now c.args.cells.now c.args.cores.now c.args.store.now c.args.j _ c.type_inv.store (ap (λ o. o.says) (returns-in_err-count-clause-outcome g c))
+
+pub returns-clause-exactly : goal.returns-clause-exactly
+returns-clause-exactly g c = step_says_exactly g.K.Core.state g.K.Core.next g.K.Core.after c.args.text.now c.args.self.now c.args.cells.now c.args.cores.now c.args.store.now c.args.j _ c.type_inv.store (ap (λ o. o.says) (returns-clause-outcome g c))
