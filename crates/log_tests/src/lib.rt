@@ -16,30 +16,40 @@ mod tests {
 
     const THIRD: [u8; 12] = [0x48, 0x43, 2, 3, 0, 2, 0x45, 0x44, 0, 3, 0, 0];
 
-    fn place(layer: usize, at: Location, cause: usize) -> [usize; 5] {
-        [9, layer, at.core as usize, at.offset, cause]
+    // Each core's instructions, or why the logs are refused.
+    type Answer = Result<[u16; 4], Refusal>;
+
+    // Faults of core 0's log at an offset.
+    fn at(offset: usize) -> Location {
+        Location { core: 0, offset }
     }
 
-    // An answer by its numbers: 0 and the instructions, 8, or 9 with layer, core, offset and cause.
-    fn numbers(answer: Result<[u16; 4], Refusal>) -> [usize; 5] {
-        match answer {
-            Ok(n) => [
-                0,
-                n[0] as usize,
-                n[1] as usize,
-                n[2] as usize,
-                n[3] as usize,
-            ],
-            Err(Refusal::BadSetting) => [8, 0, 0, 0, 0],
-            Err(Refusal::LogFault(SessionFault::Source(at))) => place(3, at, 6),
-            Err(Refusal::LogFault(SessionFault::Read(fault))) => match fault {
-                RecordFault::Bytes(ByteFault::Cut(at)) => place(1, at, 1),
-                RecordFault::Bytes(ByteFault::Mark(at)) => place(1, at, 2),
-                RecordFault::BadHead(at) => place(2, at, 3),
-                RecordFault::BadArc(at) => place(2, at, 4),
-                RecordFault::BadEnd(at) => place(2, at, 5),
-            },
-        }
+    fn broken(fault: RecordFault) -> Answer {
+        Err(Refusal::LogFault(SessionFault::Read(fault)))
+    }
+
+    fn cut(offset: usize) -> Answer {
+        broken(RecordFault::Bytes(ByteFault::Cut(at(offset))))
+    }
+
+    fn no_mark(offset: usize) -> Answer {
+        broken(RecordFault::Bytes(ByteFault::Mark(at(offset))))
+    }
+
+    fn bad_head(offset: usize) -> Answer {
+        broken(RecordFault::BadHead(at(offset)))
+    }
+
+    fn bad_arc(offset: usize) -> Answer {
+        broken(RecordFault::BadArc(at(offset)))
+    }
+
+    fn bad_end(offset: usize) -> Answer {
+        broken(RecordFault::BadEnd(at(offset)))
+    }
+
+    fn bad_source(offset: usize) -> Answer {
+        Err(Refusal::LogFault(SessionFault::Source(at(offset))))
     }
 
     // Puts a log and zeros behind it, `size` bytes in all, at the end of the store.
@@ -65,7 +75,7 @@ mod tests {
         heap: Global,
         rest: &[u8],
         size: usize,
-        expected: [usize; 5],
+        expected: Answer,
         case: &str,
     ) -> Result<(), Fail> {
         let store = store_of(heap, rest, size)?;
@@ -74,11 +84,7 @@ mod tests {
             cells: 2,
             log_bytes: size,
         };
-        assert_eq!(rt;
-            numbers(read_logs(store.as_slice(), sizes)),
-            expected,
-            "{case}"
-        );
+        assert_eq!(rt; read_logs(store.as_slice(), sizes), expected, "{case}");
         Ok(())
     }
 
@@ -86,31 +92,24 @@ mod tests {
     fn cut_and_unknown_marks(rt: HostRuntime) -> Result<(), Fail> {
         let heap = rt.alloc();
         let arc = [0x41, 0x52, 1, 0, 1, 0, 1, 0x45, 0x44];
-        says(&rt, heap, &arc, 12, [9, 1, 0, 6, 1], "a cut arc")?;
-        says(&rt, heap, &arc, 13, [9, 1, 0, 13, 1], "no byte left")?;
-        says(&rt, heap, &arc, 14, [9, 1, 0, 13, 1], "one byte left")?;
+        says(&rt, heap, &arc, 12, cut(6), "a cut arc")?;
+        says(&rt, heap, &arc, 13, cut(13), "no byte left")?;
+        says(&rt, heap, &arc, 14, cut(13), "one byte left")?;
         says(
             &rt,
             heap,
             &arc,
             15,
-            [9, 1, 0, 13, 1],
+            cut(13),
             "the mark of an end, and no more",
         )?;
-        says(
-            &rt,
-            heap,
-            &arc,
-            18,
-            [9, 1, 0, 13, 1],
-            "an end one byte short",
-        )?;
+        says(&rt, heap, &arc, 18, cut(13), "an end one byte short")?;
         says(
             &rt,
             heap,
             &[0x41, 0x52, 1, 0, 1, 0, 1],
             15,
-            [9, 1, 0, 13, 2],
+            no_mark(13),
             "two bytes left, no mark",
         )?;
         says(
@@ -118,25 +117,11 @@ mod tests {
             heap,
             &[0x48, 0x43, 0, 3, 0],
             12,
-            [9, 2, 0, 6, 3],
+            bad_head(6),
             "a head later, even if right",
         )?;
-        says(
-            &rt,
-            heap,
-            &[0x41, 0x53],
-            12,
-            [9, 1, 0, 6, 2],
-            "an unknown mark",
-        )?;
-        says(
-            &rt,
-            heap,
-            &[0x52, 0x41],
-            12,
-            [9, 1, 0, 6, 2],
-            "an unknown mark",
-        )
+        says(&rt, heap, &[0x41, 0x53], 12, no_mark(6), "an unknown mark")?;
+        says(&rt, heap, &[0x52, 0x41], 12, no_mark(6), "an unknown mark")
     }
 
     #[test]
@@ -148,7 +133,7 @@ mod tests {
             heap,
             &one,
             40,
-            [0, 1, 3, 3, 0],
+            Ok([1, 3, 3, 0]),
             "source count equal to the instructions",
         )?;
         let above = [0x41, 0x52, 1, 0, 4, 0, 1, 0x45, 0x44, 0, 1, 0, 1];
@@ -157,7 +142,7 @@ mod tests {
             heap,
             &above,
             40,
-            [9, 3, 0, 6, 6],
+            bad_source(6),
             "source count one above",
         )?;
         says(
@@ -165,7 +150,7 @@ mod tests {
             heap,
             &[0x41, 0x52, 0, 0, 1, 0, 1],
             40,
-            [9, 2, 0, 6, 4],
+            bad_arc(6),
             "own core",
         )?;
         says(
@@ -173,7 +158,7 @@ mod tests {
             heap,
             &[0x41, 0x52, 3, 0, 1, 0, 1],
             40,
-            [9, 2, 0, 6, 4],
+            bad_arc(6),
             "no such core",
         )?;
         says(
@@ -181,7 +166,7 @@ mod tests {
             heap,
             &[0x41, 0x52, 1, 0, 0, 0, 1],
             40,
-            [9, 2, 0, 6, 4],
+            bad_arc(6),
             "source count 0",
         )?;
         says(
@@ -189,7 +174,7 @@ mod tests {
             heap,
             &[0x41, 0x52, 1, 0, 1, 0, 0],
             40,
-            [9, 2, 0, 6, 4],
+            bad_arc(6),
             "target count 0",
         )?;
         says(
@@ -197,7 +182,7 @@ mod tests {
             heap,
             &[0x45, 0x44, 0, 0, 0, 1],
             40,
-            [9, 2, 0, 6, 5],
+            bad_end(6),
             "an arc too many",
         )?;
         says(
@@ -205,18 +190,18 @@ mod tests {
             heap,
             &[0x45, 0x44, 0, 0, 0, 0],
             12,
-            [0, 0, 3, 3, 0],
+            Ok([0, 3, 3, 0]),
             "no arcs, no instructions",
         )?;
         let short = [0x41, 0x52, 1, 0, 1, 0, 1, 0x45, 0x44, 0, 1, 0, 0];
-        says(&rt, heap, &short, 40, [9, 2, 0, 13, 5], "an arc too few")?;
+        says(&rt, heap, &short, 40, bad_end(13), "an arc too few")?;
         let below = [0x41, 0x52, 1, 0, 1, 0, 2, 0x45, 0x44, 0, 1, 0, 1];
         says(
             &rt,
             heap,
             &below,
             40,
-            [9, 2, 0, 13, 5],
+            bad_end(13),
             "instructions below the last target",
         )
     }
@@ -233,7 +218,7 @@ mod tests {
             heap,
             &arcs,
             40,
-            [0, 3, 3, 3, 0],
+            Ok([3, 3, 3, 0]),
             "equal targets from two cores, in any order",
         )?;
         arcs[20] = 2;
@@ -242,11 +227,11 @@ mod tests {
             heap,
             &arcs,
             40,
-            [9, 2, 0, 20, 4],
+            bad_arc(20),
             "the same target and source core twice, not adjacent",
         )?;
         arcs[20] = 1;
-        says(&rt, heap, &arcs, 40, [9, 2, 0, 20, 4], "a falling target")
+        says(&rt, heap, &arcs, 40, bad_arc(20), "a falling target")
     }
 
     #[test]
@@ -259,59 +244,59 @@ mod tests {
             log_bytes: 12,
         };
         assert_eq!(rt;
-            numbers(read_logs(store.as_slice(), Sizes { cells: 3, ..sizes })),
-            [9, 2, 0, 0, 3]
+            read_logs(store.as_slice(), Sizes { cells: 3, ..sizes }),
+            bad_head(0)
         );
         assert_eq!(rt;
-            numbers(read_logs(store.as_slice(), Sizes { cores: 2, ..sizes })),
-            [9, 2, 0, 0, 3]
+            read_logs(store.as_slice(), Sizes { cores: 2, ..sizes }),
+            bad_head(0)
         );
         assert_eq!(rt;
-            numbers(read_logs(store.as_slice(), Sizes { cores: 0, ..sizes })),
-            [8, 0, 0, 0, 0]
+            read_logs(store.as_slice(), Sizes { cores: 0, ..sizes }),
+            Err(Refusal::BadSetting)
         );
         assert_eq!(rt;
-            numbers(read_logs(store.as_slice(), Sizes { cores: 5, ..sizes })),
-            [8, 0, 0, 0, 0]
+            read_logs(store.as_slice(), Sizes { cores: 5, ..sizes }),
+            Err(Refusal::BadSetting)
         );
         assert_eq!(rt;
-            numbers(read_logs(store.as_slice(), Sizes { cells: 0, ..sizes })),
-            [8, 0, 0, 0, 0]
+            read_logs(store.as_slice(), Sizes { cells: 0, ..sizes }),
+            Err(Refusal::BadSetting)
         );
         assert_eq!(rt;
-            numbers(read_logs(
+            read_logs(
                 store.as_slice(),
                 Sizes {
                     cells: 257,
                     ..sizes
-                },
-            )),
-            [8, 0, 0, 0, 0]
+                }
+            ),
+            Err(Refusal::BadSetting)
         );
         assert_eq!(rt;
-            numbers(read_logs(
+            read_logs(
                 store.as_slice(),
                 Sizes {
                     log_bytes: 11,
                     ..sizes
-                },
-            )),
-            [8, 0, 0, 0, 0]
+                }
+            ),
+            Err(Refusal::BadSetting)
         );
         assert_eq!(rt;
-            numbers(read_logs(
+            read_logs(
                 store.as_slice(),
                 Sizes {
                     log_bytes: 13,
                     ..sizes
-                },
-            )),
-            [8, 0, 0, 0, 0]
+                }
+            ),
+            Err(Refusal::BadSetting)
         );
         let _ = store.pop();
         assert_eq!(rt;
-            numbers(read_logs(store.as_slice(), sizes)),
-            [8, 0, 0, 0, 0],
+            read_logs(store.as_slice(), sizes),
+            Err(Refusal::BadSetting),
             "one byte short"
         );
         Ok(())

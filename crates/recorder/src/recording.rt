@@ -18,7 +18,7 @@ use records::settings::{CheckedSizes, Heading, Sizes};
 use reducers::interface::Reducer;
 
 // An instruction that was carried out: the request, its count, the number that it brought and how many arcs were logged.
-#[derive(Clone, Copy)]
+#[derive(Clone, Copy, PartialEq, Eq, Debug)]
 pub struct Recorded {
     pub request: Request,
     pub count: u16,

@@ -13,7 +13,7 @@ use records::settings::CheckedSizes;
 use reducers::interface::AccessKind;
 
 // Why a call does nothing.
-#[derive(Clone, Copy)]
+#[derive(Clone, Copy, PartialEq, Eq, Debug)]
 pub enum Refusal {
     NoSuchCore,
     Halted,

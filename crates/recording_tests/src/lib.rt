@@ -6,7 +6,7 @@ mod tests {
     use cores::interface::{Core, Request, StartingCore};
     use cores::register::RegisterCore;
     use cores::script::ScriptCore;
-    use recorder::recording::Recorder;
+    use recorder::recording::{Recorded, Recorder};
     use recorder::rules::Refusal;
     use records::settings::Sizes;
     use reducers::exact::Exact;
@@ -26,17 +26,6 @@ mod tests {
     // The least log bytes with which every reducer can record the worked run.
     const LOG: usize = 33;
 
-    fn code(refusal: Refusal) -> u16 {
-        match refusal {
-            Refusal::NoSuchCore => 1,
-            Refusal::Halted => 2,
-            Refusal::CountSpent => 3,
-            Refusal::NoSuchCell => 4,
-            Refusal::LogFull => 5,
-            Refusal::BadSetting => 8,
-        }
-    }
-
     fn sizes(cores: usize, cells: usize, log_bytes: usize) -> Sizes {
         Sizes {
             cores,
@@ -45,35 +34,16 @@ mod tests {
         }
     }
 
-    // Begins, and gives 0 or a refusal's code.
-    fn begin<R: Reducer, K>(
-        recorder: &mut Recorder<R>,
-        sizes: Sizes,
-        cores: &[K],
-        cells: &[u16],
-        store: &mut [u8],
-    ) -> u16 {
-        match recorder.begin(sizes, cores, cells, store) {
-            Ok(_) => 0,
-            Err(refusal) => code(refusal),
-        }
-    }
+    type Answer = Result<Recorded, Refusal>;
 
-    // The request, its count, the number that it brought and how many arcs were logged, or a refusal's code.
-    type Answer = Result<(Request, u16, u16, u16), u16>;
-
-    fn turn<R: Reducer, K: Core>(
-        recorder: &mut Recorder<R>,
-        text: &[u8],
-        cores: &mut [K],
-        cells: &mut [u16],
-        store: &mut [u8],
-        j: usize,
-    ) -> Answer {
-        match recorder.turn(text, cores, cells, store, j) {
-            Ok(r) => Ok((r.request, r.count, r.number, r.arcs)),
-            Err(refusal) => Err(code(refusal)),
-        }
+    // A turn that is carried out.
+    fn done(request: Request, count: u16, number: u16, arcs: u16) -> Answer {
+        Ok(Recorded {
+            request,
+            count,
+            number,
+            arcs,
+        })
     }
 
     fn read(cell: u16) -> Request {
@@ -108,25 +78,14 @@ mod tests {
             }
         }
 
-        fn begin(&mut self, sizes: Sizes) -> u16 {
-            begin(
-                &mut self.recorder,
-                sizes,
-                &self.cores,
-                &self.cells,
-                &mut self.store,
-            )
+        fn begin(&mut self, sizes: Sizes) -> Result<(), Refusal> {
+            self.recorder
+                .begin(sizes, &self.cores, &self.cells, &mut self.store)
         }
 
         fn turn(&mut self, text: &[u8], j: usize) -> Answer {
-            turn(
-                &mut self.recorder,
-                text,
-                &mut self.cores,
-                &mut self.cells,
-                &mut self.store,
-                j,
-            )
+            self.recorder
+                .turn(text, &mut self.cores, &mut self.cells, &mut self.store, j)
         }
 
         // Takes the turns in order, and holds each to its answer.
@@ -150,7 +109,7 @@ mod tests {
             text: &[u8],
             turns: [(usize, Answer); N],
         ) -> Result<(), Fail> {
-            assert_eq!(rt; self.begin(sizes), 0);
+            assert_eq!(rt; self.begin(sizes), Ok(()));
             self.play(rt, text, turns)
         }
 
@@ -180,12 +139,12 @@ mod tests {
     ) -> Result<(), Fail> {
         let mut bench = Bench::new(reducer, [0, 2, 5]);
         let turns = [
-            (0, Ok((write(0, 7), 1, 0, 0))),
-            (1, Ok((read(0), 1, 7, 1))),
-            (1, Ok((write(1, 9), 2, 0, 0))),
-            (2, Ok((read(1), 1, 9, 1))),
-            (2, Ok((write(0, 4), 2, 0, last))),
-            (2, Err(2)),
+            (0, done(write(0, 7), 1, 0, 0)),
+            (1, done(read(0), 1, 7, 1)),
+            (1, done(write(1, 9), 2, 0, 0)),
+            (2, done(read(1), 1, 9, 1)),
+            (2, done(write(0, 4), 2, 0, last)),
+            (2, Err(Refusal::Halted)),
         ];
         bench.session(rt, sizes(3, 2, LOG), WORKED, turns)?;
         assert!(rt;
@@ -217,11 +176,11 @@ mod tests {
         let text = b"\x01\0\0\0\x02\x01\0\x05\x01\x01\0\0\x01\0\0\0\x02\0\0\x06";
         let mut bench = Bench::new(Exact::new(), [0, 2, 4]);
         let turns = [
-            (0, Ok((read(0), 1, 0, 0))),
-            (0, Ok((write(1, 5), 2, 0, 0))),
-            (1, Ok((read(1), 1, 5, 1))),
-            (1, Ok((read(0), 2, 0, 0))),
-            (2, Ok((write(0, 6), 1, 0, 1))),
+            (0, done(read(0), 1, 0, 0)),
+            (0, done(write(1, 5), 2, 0, 0)),
+            (1, done(read(1), 1, 5, 1)),
+            (1, done(read(0), 2, 0, 0)),
+            (2, done(write(0, 6), 1, 0, 1)),
         ];
         bench.session(&rt, sizes(3, 2, LOG), text, turns)?;
         assert!(rt;
@@ -240,10 +199,10 @@ mod tests {
         let text = b"\x02\0\0\x07\x01\0\0\0\x01\0\0\0\x02\0\0\x08";
         let mut bench = Bench::new(Exact::new(), [0, 2, 4]);
         let turns = [
-            (0, Ok((write(0, 7), 1, 0, 0))),
-            (0, Ok((read(0), 2, 7, 0))),
-            (1, Ok((read(0), 1, 7, 1))),
-            (1, Ok((write(0, 8), 2, 0, 1))),
+            (0, done(write(0, 7), 1, 0, 0)),
+            (0, done(read(0), 2, 7, 0)),
+            (1, done(read(0), 1, 7, 1)),
+            (1, done(write(0, 8), 2, 0, 1)),
         ];
         bench.session(&rt, sizes(3, 2, LOG), text, turns)?;
         assert!(rt;
@@ -261,14 +220,25 @@ mod tests {
     fn room_for_arcs(rt: HostRuntime) -> Result<(), Fail> {
         let text = b"\x02\0\0\x07\0\0\0\0\x02\x01\0\x09\x01\x02\0\0";
         let mut bench = Bench::new(Exact::new(), [0, 1, 3]);
-        assert_eq!(rt; bench.begin(sizes(3, 2, 25)), 0);
+        assert_eq!(rt; bench.begin(sizes(3, 2, 25)), Ok(()));
         let before = bench.store;
-        bench.play(&rt, text, [(0, Err(5)), (2, Err(4))])?;
+        bench.play(
+            &rt,
+            text,
+            [(0, Err(Refusal::LogFull)), (2, Err(Refusal::NoSuchCell))],
+        )?;
         assert!(rt; bench.store == before && bench.cells == [0, 0]);
-        bench.play(&rt, text, [(1, Ok((Request::Local, 1, 0, 0))), (1, Err(5))])?;
+        bench.play(
+            &rt,
+            text,
+            [
+                (1, done(Request::Local, 1, 0, 0)),
+                (1, Err(Refusal::LogFull)),
+            ],
+        )?;
         let turns = [
-            (0, Ok((write(0, 7), 1, 0, 0))),
-            (1, Ok((write(1, 9), 1, 0, 0))),
+            (0, done(write(0, 7), 1, 0, 0)),
+            (1, done(write(1, 9), 1, 0, 0)),
         ];
         bench.session(&rt, sizes(3, 2, 26), text, turns)?;
         assert_eq!(rt; bench.cells, [7, 9]);
@@ -285,12 +255,12 @@ mod tests {
             number: 258,
         };
         let turns = [
-            (0, Ok((write(0, 7), 1, 0, 0))),
-            (0, Ok((read(0), 2, 7, 0))),
-            (0, Ok((exchange, 3, 7, 0))),
-            (0, Ok((read(0), 4, 258, 0))),
-            (0, Err(2)),
-            (1, Err(1)),
+            (0, done(write(0, 7), 1, 0, 0)),
+            (0, done(read(0), 2, 7, 0)),
+            (0, done(exchange, 3, 7, 0)),
+            (0, done(read(0), 4, 258, 0)),
+            (0, Err(Refusal::Halted)),
+            (1, Err(Refusal::NoSuchCore)),
         ];
         bench.session(&rt, sizes(1, 1, 12), text, turns)?;
         assert!(rt; bench.has_log(0, b"HC\0\x01\0\x01ED\0\x04\0\0"));
@@ -306,9 +276,9 @@ mod tests {
             store,
         } = bench;
         [
-            turn(recorder, text, &mut cores[0..2], cells, store, 7),
-            turn(recorder, text, cores, &mut cells[0..1], store, 7),
-            turn(recorder, text, cores, cells, &mut store[0..98], 7),
+            recorder.turn(text, &mut cores[0..2], cells, store, 7),
+            recorder.turn(text, cores, &mut cells[0..1], store, 7),
+            recorder.turn(text, cores, cells, &mut store[0..98], 7),
         ]
     }
 
@@ -317,15 +287,38 @@ mod tests {
     fn refusals(rt: HostRuntime) -> Result<(), Fail> {
         let text = b"\x01\x01\0\0\xff\0\0\0\0\0\0\0";
         let mut bench = Bench::new(Exact::new(), [0, 1, 2]);
-        bench.play(&rt, text, [(0, Err(8)), (7, Err(8))])?;
-        let turns = [(2, Err(1)), (7, Err(1)), (1, Err(2)), (0, Err(4))];
+        bench.play(
+            &rt,
+            text,
+            [(0, Err(Refusal::BadSetting)), (7, Err(Refusal::BadSetting))],
+        )?;
+        let turns = [
+            (2, Err(Refusal::NoSuchCore)),
+            (7, Err(Refusal::NoSuchCore)),
+            (1, Err(Refusal::Halted)),
+            (0, Err(Refusal::NoSuchCell)),
+        ];
         bench.session(&rt, sizes(2, 1, 12), text, turns)?;
-        assert_eq!(rt; bench.begin(sizes(3, 2, LOG)), 0);
+        assert_eq!(rt; bench.begin(sizes(3, 2, LOG)), Ok(()));
         let before = bench.store;
-        assert_eq!(rt; cut(&mut bench, text), [Err(8), Err(8), Err(8)]);
-        assert_eq!(rt; bench.begin(sizes(3, 2, 34)), 8);
+        assert_eq!(rt;
+            cut(&mut bench, text),
+            [
+                Err(Refusal::BadSetting),
+                Err(Refusal::BadSetting),
+                Err(Refusal::BadSetting)
+            ]
+        );
+        assert_eq!(rt; bench.begin(sizes(3, 2, 34)), Err(Refusal::BadSetting));
         assert!(rt; bench.store == before);
-        bench.play(&rt, text, [(7, Err(1)), (2, Ok((Request::Local, 1, 0, 0)))])
+        bench.play(
+            &rt,
+            text,
+            [
+                (7, Err(Refusal::NoSuchCore)),
+                (2, done(Request::Local, 1, 0, 0)),
+            ],
+        )
     }
 
     // Sizes, what begin answers, and the count of core 0's next turn: a refused begin keeps the former recording.
@@ -336,22 +329,23 @@ mod tests {
         cells: &mut [u16],
         store: &mut [u8],
     ) -> Result<(), Fail> {
+        let refused = Err(Refusal::BadSetting);
         let rows = [
-            (sizes(1, 1, 12), 0, 1),
-            (sizes(0, 1, 12), 8, 2),
-            (sizes(5, 1, 12), 8, 3),
-            (sizes(1, 0, 12), 8, 4),
-            (sizes(1, 257, 12), 8, 5),
-            (sizes(1, 1, 11), 8, 6),
-            (sizes(1, 1, 16385), 8, 7),
-            (sizes(2, 1, 8193), 8, 8),
-            (sizes(4, 256, 12), 0, 1),
-            (sizes(1, 1, 16384), 0, 1),
+            (sizes(1, 1, 12), Ok(()), 1),
+            (sizes(0, 1, 12), refused, 2),
+            (sizes(5, 1, 12), refused, 3),
+            (sizes(1, 0, 12), refused, 4),
+            (sizes(1, 257, 12), refused, 5),
+            (sizes(1, 1, 11), refused, 6),
+            (sizes(1, 1, 16385), refused, 7),
+            (sizes(2, 1, 8193), refused, 8),
+            (sizes(4, 256, 12), Ok(()), 1),
+            (sizes(1, 1, 16384), Ok(()), 1),
         ];
         for (asked, expected, count) in rows {
-            assert_eq!(rt; begin(recorder, asked, cores, cells, store), expected);
-            let local = turn(recorder, &[0; 64], cores, cells, store, 0);
-            assert_eq!(rt; local, Ok((Request::Local, count, 0, 0)));
+            assert_eq!(rt; recorder.begin(asked, cores, cells, store), expected);
+            let local = recorder.turn(&[0; 64], cores, cells, store, 0);
+            assert_eq!(rt; local, done(Request::Local, count, 0, 0));
         }
         Ok(())
     }
@@ -362,21 +356,9 @@ mod tests {
         let mut cores = [ScriptCore::new(0); 5];
         let mut cells = [0; 257];
         let mut store = [0; 16385];
-        let few_cores = begin(
-            &mut recorder,
-            sizes(4, 1, 12),
-            &cores[0..3],
-            &cells,
-            &mut store,
-        );
-        let few_cells = begin(
-            &mut recorder,
-            sizes(1, 9, 12),
-            &cores,
-            &cells[0..8],
-            &mut store,
-        );
-        assert_eq!(rt; [few_cores, few_cells], [8, 8]);
+        let few_cores = recorder.begin(sizes(4, 1, 12), &cores[0..3], &cells, &mut store);
+        let few_cells = recorder.begin(sizes(1, 9, 12), &cores, &cells[0..8], &mut store);
+        assert_eq!(rt; [few_cores, few_cells], [Err(Refusal::BadSetting); 2]);
         limits(&rt, &mut recorder, &mut cores, &mut cells, &mut store)
     }
 
@@ -390,14 +372,21 @@ mod tests {
     ) -> Result<(), Fail> {
         let text = b"\x04\0\0\0\x07\0\0\0";
         for count in 1..=65535 {
-            let local = turn(recorder, text, cores, cells, store, 0);
-            assert_eq!(rt; local, Ok((Request::Local, count, 0, 0)));
+            let local = recorder.turn(text, cores, cells, store, 0);
+            assert_eq!(rt; local, done(Request::Local, count, 0, 0));
         }
         // then item 1 goes on, or reads a cell that is not there, or halts
-        let more = turn(recorder, text, cores, cells, store, 0);
-        let missing = turn(recorder, b"\0\0\0\0\x01\0\0\xc8", cores, cells, store, 0);
-        let halt = turn(recorder, b"\0\0\0\0\xff\0\0\0", cores, cells, store, 0);
-        assert_eq!(rt; [more, missing, halt], [Err(3), Err(3), Err(2)]);
+        let more = recorder.turn(text, cores, cells, store, 0);
+        let missing = recorder.turn(b"\0\0\0\0\x01\0\0\xc8", cores, cells, store, 0);
+        let halt = recorder.turn(b"\0\0\0\0\xff\0\0\0", cores, cells, store, 0);
+        assert_eq!(rt;
+            [more, missing, halt],
+            [
+                Err(Refusal::CountSpent),
+                Err(Refusal::CountSpent),
+                Err(Refusal::Halted)
+            ]
+        );
         Ok(())
     }
 
@@ -407,8 +396,8 @@ mod tests {
         let mut cores = [RegisterCore::new(0)];
         let mut cells = [0];
         let mut store = [0; 12];
-        let begun = begin(&mut recorder, sizes(1, 1, 12), &cores, &cells, &mut store);
-        assert_eq!(rt; begun, 0);
+        let begun = recorder.begin(sizes(1, 1, 12), &cores, &cells, &mut store);
+        assert_eq!(rt; begun, Ok(()));
         spend(&rt, &mut recorder, &mut cores, &mut cells, &mut store)?;
         assert_eq!(rt; &store, b"HC\0\x01\0\x01ED\xff\xff\0\0");
         Ok(())
@@ -420,13 +409,13 @@ mod tests {
         let mut bench = Bench::new(reducer, [0, 2, 4]);
         for number in [7, 8] {
             let turns = [
-                (0, Ok((write(0, number), 1, 0, 0))),
-                (1, Ok((read(0), 1, number, 1))),
+                (0, done(write(0, number), 1, 0, 0)),
+                (1, done(read(0), 1, number, 1)),
             ];
             bench.session(rt, sizes(3, 2, LOG), text, turns)?;
         }
         let exchange = Request::Exchange { cell: 0, number: 9 };
-        bench.session(rt, sizes(3, 2, LOG), text, [(2, Ok((exchange, 1, 8, 0)))])?;
+        bench.session(rt, sizes(3, 2, LOG), text, [(2, done(exchange, 1, 8, 0))])?;
         assert!(rt; bench.store[0..12].starts_with(b"HC\0\x03\0\x02ED\0\0\0\0"));
         Ok(())
     }
@@ -448,22 +437,19 @@ mod tests {
         let text = b"\x01\xff\0\0\x02\xff\x01\x02\x01\xff\0\0";
         let mut recorder = Recorder::new(Exact::new());
         assert_eq!(rt;
-            begin(&mut recorder, sizes(4, 256, 33), cores, cells, store),
-            0
+            recorder.begin(sizes(4, 256, 33), cores, cells, store),
+            Ok(())
         );
         let turns = [
-            (0, Ok((read(255), 1, 5, 0))),
-            (1, Ok((read(255), 1, 5, 0))),
-            (2, Ok((read(255), 1, 5, 0))),
-            (3, Ok((write(255, 258), 1, 0, 3))),
-            (3, Err(5)),
-            (4, Err(1)),
+            (0, done(read(255), 1, 5, 0)),
+            (1, done(read(255), 1, 5, 0)),
+            (2, done(read(255), 1, 5, 0)),
+            (3, done(write(255, 258), 1, 0, 3)),
+            (3, Err(Refusal::LogFull)),
+            (4, Err(Refusal::NoSuchCore)),
         ];
         for (core, expected) in turns {
-            assert_eq!(rt;
-                turn(&mut recorder, text, cores, cells, store, core),
-                expected
-            );
+            assert_eq!(rt; recorder.turn(text, cores, cells, store, core), expected);
         }
         Ok(())
     }
@@ -492,18 +478,18 @@ mod tests {
         let text = b"\x02\0\0\x01\x02\0\0\x02\x02\0\0\x03\x02\0\0\x04\0\0\0\0\x01\0\0\0";
         let mut bench = Bench::new(reducer, [0, 1, 0]);
         let turns = [
-            (0, Ok((write(0, 1), 1, 0, 0))),
-            (1, Ok((write(0, 2), 1, 0, 1))),
-            (0, Ok((write(0, 2), 2, 0, 1))),
-            (1, Ok((write(0, 3), 2, 0, 1))),
-            (0, Ok((write(0, 3), 3, 0, 1))),
-            (1, Ok((write(0, 4), 3, 0, 1))),
-            (0, Ok((write(0, 4), 4, 0, 1))),
-            (1, Ok((Request::Local, 4, 0, 0))),
-            (1, Err(5)),
-            (0, Ok((Request::Local, 5, 0, 0))),
-            (0, Err(5)),
-            (1, Err(5)),
+            (0, done(write(0, 1), 1, 0, 0)),
+            (1, done(write(0, 2), 1, 0, 1)),
+            (0, done(write(0, 2), 2, 0, 1)),
+            (1, done(write(0, 3), 2, 0, 1)),
+            (0, done(write(0, 3), 3, 0, 1)),
+            (1, done(write(0, 4), 3, 0, 1)),
+            (0, done(write(0, 4), 4, 0, 1)),
+            (1, done(Request::Local, 4, 0, 0)),
+            (1, Err(Refusal::LogFull)),
+            (0, done(Request::Local, 5, 0, 0)),
+            (0, Err(Refusal::LogFull)),
+            (1, Err(Refusal::LogFull)),
         ];
         bench.session(rt, sizes(2, 1, LOG), text, turns)?;
         assert!(rt;
@@ -546,10 +532,10 @@ mod tests {
         for number in 1..=2338 {
             let exchange = Request::Exchange { cell: 0, number };
             let arcs = u16::from(number > 1);
-            let first = turn(recorder, text, cores, cells, store, 0);
-            assert_eq!(rt; first, Ok((exchange, number, number - 1, arcs)));
-            let second = turn(recorder, text, cores, cells, store, 1);
-            assert_eq!(rt; second, Ok((exchange, number, number, 1)));
+            let first = recorder.turn(text, cores, cells, store, 0);
+            assert_eq!(rt; first, done(exchange, number, number - 1, arcs));
+            let second = recorder.turn(text, cores, cells, store, 1);
+            assert_eq!(rt; second, done(exchange, number, number, 1));
         }
         Ok(())
     }
@@ -565,20 +551,26 @@ mod tests {
     ) -> Result<(), Fail> {
         let mut recorder = Recorder::new(KeepAll);
         assert_eq!(rt;
-            begin(&mut recorder, sizes(2, 1, 16384), cores, cells, store),
-            0
+            recorder.begin(sizes(2, 1, 16384), cores, cells, store),
+            Ok(())
         );
         take_turns(rt, &mut recorder, text, cores, cells, store)?;
-        let full = turn(&mut recorder, text, cores, cells, store, 1);
+        let full = recorder.turn(text, cores, cells, store, 1);
         let exchange = Request::Exchange {
             cell: 0,
             number: 2339,
         };
-        let last = turn(&mut recorder, text, cores, cells, store, 0);
-        assert_eq!(rt; [full, last], [Err(5), Ok((exchange, 2339, 2338, 1))]);
-        let first = turn(&mut recorder, text, cores, cells, store, 0);
-        let second = turn(&mut recorder, text, cores, cells, store, 1);
-        assert_eq!(rt; [first, second], [Err(5), Err(5)]);
+        let last = recorder.turn(text, cores, cells, store, 0);
+        assert_eq!(rt;
+            [full, last],
+            [Err(Refusal::LogFull), done(exchange, 2339, 2338, 1)]
+        );
+        let first = recorder.turn(text, cores, cells, store, 0);
+        let second = recorder.turn(text, cores, cells, store, 1);
+        assert_eq!(rt;
+            [first, second],
+            [Err(Refusal::LogFull), Err(Refusal::LogFull)]
+        );
         Ok(())
     }
 

@@ -4,21 +4,21 @@ ghost use Rattle.records.specs.declared.faults.Refusal.TheVariants.{LogFault};
 ghost use Rattle.records.specs.declared.faults.SessionFault.TheVariants.{Read};
 
 // Where a record stands: the log's core and the offset in that log.
-#[derive(Clone, Copy)]
+#[derive(Clone, Copy, PartialEq, Eq, Debug)]
 pub struct Location {
     pub core: u8,
     pub offset: usize,
 }
 
 // Layer 1: the bytes are no record.
-#[derive(Clone, Copy)]
+#[derive(Clone, Copy, PartialEq, Eq, Debug)]
 pub enum ByteFault {
     Cut(Location),
     Mark(Location),
 }
 
 // Layer 2: the record breaks a rule of its log.
-#[derive(Clone, Copy)]
+#[derive(Clone, Copy, PartialEq, Eq, Debug)]
 pub enum RecordFault {
     Bytes(ByteFault),
     BadHead(Location),
@@ -27,14 +27,14 @@ pub enum RecordFault {
 }
 
 // Layer 3: the logs do not fit together.
-#[derive(Clone, Copy)]
+#[derive(Clone, Copy, PartialEq, Eq, Debug)]
 pub enum SessionFault {
     Read(RecordFault),
     Source(Location),
 }
 
 // Why a call is refused: 8 bad setting, 9 log fault.
-#[derive(Clone, Copy)]
+#[derive(Clone, Copy, PartialEq, Eq, Debug)]
 pub enum Refusal {
     BadSetting,
     LogFault(SessionFault),

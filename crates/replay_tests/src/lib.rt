@@ -8,12 +8,13 @@ mod tests {
     use cores::script::ScriptCore;
     use recorder::recording::Recorder;
     use records::faults::{ByteFault, Location, RecordFault, Refusal, SessionFault};
+    use records::format::Source;
     use records::settings::Sizes;
     use reducers::exact::Exact;
     use reducers::interface::Reducer;
     use reducers::keep_all::KeepAll;
     use reducers::pairwise::Pairwise;
-    use replayer::answers::{Ended, StepRefusal};
+    use replayer::answers::{Done, Ended, StepRefusal};
     use replayer::replay::Replayer;
     use std::alloc::{AllocError, Global};
     use std::process::Abort;
@@ -39,44 +40,18 @@ mod tests {
         }
     }
 
-    // A refusal's code, and with it 6 the core and count waited for, 9 layer, core, offset and cause.
-    type Code = [usize; 5];
-
-    fn place(layer: usize, at: Location, cause: usize) -> Code {
-        [9, layer, at.core as usize, at.offset, cause]
+    fn at(core: u8, offset: usize) -> Location {
+        Location { core, offset }
     }
 
-    fn fault_code(fault: SessionFault) -> Code {
-        let fault = match fault {
-            SessionFault::Source(at) => return place(3, at, 6),
-            SessionFault::Read(fault) => fault,
-        };
-        match fault {
-            RecordFault::Bytes(ByteFault::Cut(at)) => place(1, at, 1),
-            RecordFault::Bytes(ByteFault::Mark(at)) => place(1, at, 2),
-            RecordFault::BadHead(at) => place(2, at, 3),
-            RecordFault::BadArc(at) => place(2, at, 4),
-            RecordFault::BadEnd(at) => place(2, at, 5),
-        }
+    // No mark stands there.
+    fn no_mark(at: Location) -> SessionFault {
+        SessionFault::Read(RecordFault::Bytes(ByteFault::Mark(at)))
     }
 
-    fn code(refusal: Refusal) -> Code {
-        match refusal {
-            Refusal::BadSetting => [8, 0, 0, 0, 0],
-            Refusal::LogFault(fault) => fault_code(fault),
-        }
-    }
-
-    fn step_code(refusal: StepRefusal) -> Code {
-        match refusal {
-            StepRefusal::NoSuchCore => [1, 0, 0, 0, 0],
-            StepRefusal::Halted => [2, 0, 0, 0, 0],
-            StepRefusal::NoSuchCell => [4, 0, 0, 0, 0],
-            StepRefusal::Waits(on) => [6, on.core as usize, on.count as usize, 0, 0],
-            StepRefusal::Replayed => [7, 0, 0, 0, 0],
-            StepRefusal::BadSetting => [8, 0, 0, 0, 0],
-            StepRefusal::LogFault(fault) => fault_code(fault),
-        }
+    // A step that waits for instruction `count` of `core`.
+    fn waits(core: u8, count: u16) -> Answer {
+        Err(StepRefusal::Waits(Source { core, count }))
     }
 
     fn read(cell: u16) -> Request {
@@ -87,46 +62,15 @@ mod tests {
         Request::Write { cell, number }
     }
 
-    // The request, its count and the number that it brought.
-    type Answer = Result<(Request, u16, u16), Code>;
+    type Answer = Result<Done, StepRefusal>;
 
-    fn step<K: Core>(
-        replayer: &mut Replayer,
-        text: &[u8],
-        cores: &mut [K],
-        cells: &mut [u16],
-        store: &[u8],
-        j: usize,
-    ) -> Answer {
-        match replayer.step(text, cores, cells, store, j) {
-            Ok(done) => Ok((done.request, done.count, done.number)),
-            Err(refusal) => Err(step_code(refusal)),
-        }
-    }
-
-    // Opens, and gives 0 or a refusal's code.
-    fn open<K>(
-        replayer: &mut Replayer,
-        sizes: Sizes,
-        cores: &[K],
-        cells: &[u16],
-        store: &[u8],
-    ) -> usize {
-        match replayer.open(sizes, cores, cells, store) {
-            Ok(_) => 0,
-            Err(refusal) => code(refusal)[0],
-        }
-    }
-
-    // Whether all that is recorded is done, and how many steps were carried out.
-    type Outcome = Result<(bool, u32), Code>;
-
-    fn outcome(run: Result<Ended, Refusal>) -> Outcome {
-        match run {
-            Ok(Ended::Finished(steps)) => Ok((true, steps)),
-            Ok(Ended::Stopped(steps)) => Ok((false, steps)),
-            Err(refusal) => Err(code(refusal)),
-        }
+    // A step that is carried out.
+    fn done(request: Request, count: u16, number: u16) -> Answer {
+        Ok(Done {
+            request,
+            count,
+            number,
+        })
     }
 
     fn worked_cores() -> [ScriptCore; 3] {
@@ -183,33 +127,22 @@ mod tests {
             Ok(bench)
         }
 
-        fn open(&mut self, sizes: Sizes) -> Result<(), Code> {
-            match self
-                .replayer
+        fn open(&mut self, sizes: Sizes) -> Result<(), Refusal> {
+            self.replayer
                 .open(sizes, &self.cores, &self.cells, &self.store)
-            {
-                Ok(_) => Ok(()),
-                Err(refusal) => Err(code(refusal)),
-            }
         }
 
         fn step(&mut self, text: &[u8], j: usize) -> Answer {
-            step(
-                &mut self.replayer,
-                text,
-                &mut self.cores,
-                &mut self.cells,
-                &self.store,
-                j,
-            )
+            self.replayer
+                .step(text, &mut self.cores, &mut self.cells, &self.store, j)
         }
 
         // How the run ended, and the cells after it.
-        fn run(&mut self) -> (Outcome, [u16; 2]) {
+        fn run(&mut self) -> (Result<Ended, Refusal>, [u16; 2]) {
             let run = self
                 .replayer
                 .run(WORKED, &mut self.cores, &mut self.cells, &self.store);
-            (outcome(run), self.cells)
+            (run, self.cells)
         }
 
         // Puts a byte into the store, and gives the one that was there.
@@ -240,17 +173,17 @@ mod tests {
 
     fn out_of_order(rt: &impl Abort, mut bench: Bench) -> Result<(), Fail> {
         let steps = [
-            (2, Err([6, 1, 2, 0, 0])),
-            (1, Err([6, 0, 1, 0, 0])),
-            (0, Ok((write(0, 7), 1, 0))),
-            (0, Err([7, 0, 0, 0, 0])),
-            (3, Err([1, 0, 0, 0, 0])),
-            (1, Ok((read(0), 1, 7))),
-            (2, Err([6, 1, 2, 0, 0])),
+            (2, waits(1, 2)),
+            (1, waits(0, 1)),
+            (0, done(write(0, 7), 1, 0)),
+            (0, Err(StepRefusal::Replayed)),
+            (3, Err(StepRefusal::NoSuchCore)),
+            (1, done(read(0), 1, 7)),
+            (2, waits(1, 2)),
         ];
         bench.play(rt, WORKED, steps)?;
         assert_eq!(rt; bench.cells, [7, 0]);
-        assert_eq!(rt; bench.run(), (Ok((true, 3)), [4, 9]));
+        assert_eq!(rt; bench.run(), (Ok(Ended::Finished(3)), [4, 9]));
         Ok(())
     }
 
@@ -265,16 +198,16 @@ mod tests {
     #[test]
     fn runs_finish(rt: HostRuntime) -> Result<(), Fail> {
         let mut bench = Bench::opened(&rt, Exact::new())?;
-        assert_eq!(rt; bench.run(), (Ok((true, 5)), [4, 9]));
-        assert_eq!(rt; bench.run(), (Ok((true, 0)), [4, 9]));
+        assert_eq!(rt; bench.run(), (Ok(Ended::Finished(5)), [4, 9]));
+        assert_eq!(rt; bench.run(), (Ok(Ended::Finished(0)), [4, 9]));
         assert_eq!(rt; bench.open(SIZES), Ok(()));
         assert_eq!(rt;
             bench.run(),
-            (Ok((false, 0)), [4, 9]),
+            (Ok(Ended::Stopped(0)), [4, 9]),
             "core 0 has halted, the others wait"
         );
         bench.cores = worked_cores();
-        assert_eq!(rt; bench.run(), (Ok((true, 5)), [4, 9]));
+        assert_eq!(rt; bench.run(), (Ok(Ended::Finished(5)), [4, 9]));
         Ok(())
     }
 
@@ -287,9 +220,9 @@ mod tests {
             store,
         } = bench;
         [
-            step(replayer, WORKED, &mut cores[0..2], cells, store, 7),
-            step(replayer, WORKED, cores, &mut cells[0..1], store, 7),
-            step(replayer, WORKED, cores, cells, &store[0..98], 7),
+            replayer.step(WORKED, &mut cores[0..2], cells, store, 7),
+            replayer.step(WORKED, cores, &mut cells[0..1], store, 7),
+            replayer.step(WORKED, cores, cells, &store[0..98], 7),
         ]
     }
 
@@ -297,21 +230,21 @@ mod tests {
     #[test]
     fn refused_steps(rt: HostRuntime) -> Result<(), Fail> {
         let mut bench = Bench::recorded(&rt, Exact::new())?;
-        let unset = [8, 0, 0, 0, 0];
-        bench.play(&rt, WORKED, [(0, Err(unset)), (7, Err(unset))])?;
-        assert_eq!(rt; bench.run(), (Err(unset), [0, 0]));
+        let unset = Err(StepRefusal::BadSetting);
+        bench.play(&rt, WORKED, [(0, unset), (7, unset)])?;
+        assert_eq!(rt; bench.run(), (Err(Refusal::BadSetting), [0, 0]));
         assert_eq!(rt; bench.open(SIZES), Ok(()));
-        assert_eq!(rt; cut(&mut bench), [Err(unset); 3]);
+        assert_eq!(rt; cut(&mut bench), [unset; 3]);
         // without items all cores halt
         let steps = [
-            (7, Err([1, 0, 0, 0, 0])),
-            (1, Err([6, 0, 1, 0, 0])),
-            (0, Err([2, 0, 0, 0, 0])),
+            (7, Err(StepRefusal::NoSuchCore)),
+            (1, waits(0, 1)),
+            (0, Err(StepRefusal::Halted)),
         ];
         bench.play(&rt, b"", steps)?;
-        let no_cell = [(0, Err([4, 0, 0, 0, 0]))];
+        let no_cell = [(0, Err(StepRefusal::NoSuchCell))];
         bench.play(&rt, b"\x01\x02\0\0", no_cell)?;
-        assert_eq!(rt; bench.run(), (Ok((true, 5)), [4, 9]));
+        assert_eq!(rt; bench.run(), (Ok(Ended::Finished(5)), [4, 9]));
         Ok(())
     }
 
@@ -320,24 +253,27 @@ mod tests {
         rt: &impl Abort,
         mut bench: Bench,
         asked: Sizes,
-        expected: Code,
+        expected: Refusal,
     ) -> Result<(), Fail> {
-        bench.play(rt, WORKED, [(0, Ok((write(0, 7), 1, 0)))])?;
+        bench.play(rt, WORKED, [(0, done(write(0, 7), 1, 0))])?;
         assert_eq!(rt; bench.open(asked), Err(expected));
-        let steps = [(0, Err([7, 0, 0, 0, 0])), (1, Ok((read(0), 1, 7)))];
+        let steps = [(0, Err(StepRefusal::Replayed)), (1, done(read(0), 1, 7))];
         bench.play(rt, WORKED, steps)?;
         assert_eq!(rt; bench.open(SIZES), Ok(()));
-        bench.play(rt, WORKED, [(1, Err([6, 0, 1, 0, 0]))])
+        bench.play(rt, WORKED, [(1, waits(0, 1))])
     }
 
     #[test]
     fn refused_openings(rt: HostRuntime) -> Result<(), Fail> {
         let bench = Bench::opened(&rt, Exact::new())?;
         let rows = [
-            (sizes(4, 2, 12), [8, 0, 0, 0, 0]),
-            (sizes(3, 3, 33), [8, 0, 0, 0, 0]),
-            (sizes(3, 2, 34), [8, 0, 0, 0, 0]),
-            (sizes(3, 1, 33), [9, 2, 0, 0, 3]),
+            (sizes(4, 2, 12), Refusal::BadSetting),
+            (sizes(3, 3, 33), Refusal::BadSetting),
+            (sizes(3, 2, 34), Refusal::BadSetting),
+            (
+                sizes(3, 1, 33),
+                Refusal::LogFault(SessionFault::Read(RecordFault::BadHead(at(0, 0)))),
+            ),
         ];
         for (asked, expected) in rows {
             refused_open(&rt, bench, asked, expected)?;
@@ -352,14 +288,14 @@ mod tests {
         at: usize,
         byte: u8,
         j: usize,
-        expected: Code,
+        fault: SessionFault,
     ) -> Result<(), Fail> {
         let right = bench.damage(at, byte);
-        bench.play(rt, WORKED, [(j, Err(expected))])?;
-        assert_eq!(rt; bench.open(SIZES), Err(expected));
+        bench.play(rt, WORKED, [(j, Err(StepRefusal::LogFault(fault)))])?;
+        assert_eq!(rt; bench.open(SIZES), Err(Refusal::LogFault(fault)));
         assert_eq!(rt; bench.cells, [0, 0]);
         bench.damage(at, right);
-        assert_eq!(rt; bench.run(), (Ok((true, 5)), [4, 9]));
+        assert_eq!(rt; bench.run(), (Ok(Ended::Finished(5)), [4, 9]));
         Ok(())
     }
 
@@ -368,15 +304,15 @@ mod tests {
     fn damaged_logs(rt: HostRuntime) -> Result<(), Fail> {
         let bench = Bench::opened(&rt, Exact::new())?;
         let rows = [
-            (6, 0, 0, [9, 1, 0, 6, 2]),
-            (11, 1, 0, [9, 2, 0, 6, 5]),
-            (39, 0, 1, [9, 1, 1, 6, 2]),
-            (41, 1, 1, [9, 2, 1, 6, 4]),
-            (43, 2, 1, [9, 3, 1, 6, 6]),
-            (47, 0, 1, [9, 1, 1, 13, 2]),
+            (6, 0, 0, no_mark(at(0, 6))),
+            (11, 1, 0, SessionFault::Read(RecordFault::BadEnd(at(0, 6)))),
+            (39, 0, 1, no_mark(at(1, 6))),
+            (41, 1, 1, SessionFault::Read(RecordFault::BadArc(at(1, 6)))),
+            (43, 2, 1, SessionFault::Source(at(1, 6))),
+            (47, 0, 1, no_mark(at(1, 13))),
         ];
-        for (at, byte, j, expected) in rows {
-            damaged(&rt, bench, at, byte, j, expected)?;
+        for (offset, byte, j, fault) in rows {
+            damaged(&rt, bench, offset, byte, j, fault)?;
         }
         Ok(())
     }
@@ -404,8 +340,8 @@ mod tests {
         let second = b"HC\x01\x02\0\x02AR\0\0\x01\0\x01ED\0\x01\0\x01";
         let mut bench = Bench::new(store_of(first, second, b""));
         assert_eq!(rt; bench.open(sizes(2, 2, 33)), Ok(()));
-        assert_eq!(rt; bench.run(), (Ok((false, 0)), [0, 0]));
-        let steps = [(0, Err([6, 1, 1, 0, 0])), (1, Err([6, 0, 1, 0, 0]))];
+        assert_eq!(rt; bench.run(), (Ok(Ended::Stopped(0)), [0, 0]));
+        let steps = [(0, waits(1, 1)), (1, waits(0, 1))];
         bench.play(&rt, WORKED, steps)
     }
 
@@ -418,7 +354,7 @@ mod tests {
         let mut bench = Bench::new(store_of(first, second, third));
         bench.cores = [ScriptCore::new(6), ScriptCore::new(3), ScriptCore::new(0)];
         assert_eq!(rt; bench.open(SIZES), Ok(()));
-        assert_eq!(rt; bench.run(), (Ok((true, 3)), [7, 9]));
+        assert_eq!(rt; bench.run(), (Ok(Ended::Finished(3)), [7, 9]));
         Ok(())
     }
 
@@ -434,15 +370,15 @@ mod tests {
         bench.cores = [ScriptCore::new(0); 3];
         assert_eq!(rt; bench.open(SIZES), Ok(()));
         let steps = [
-            (1, Ok((Request::Local, 1, 0))),
-            (2, Ok((Request::Local, 1, 0))),
-            (2, Err([6, 0, 1, 0, 0])),
+            (1, done(Request::Local, 1, 0)),
+            (2, done(Request::Local, 1, 0)),
+            (2, waits(0, 1)),
         ];
         bench.play(&rt, text, steps)?;
         assert_eq!(rt; bench.damage(85, 1), 2);
-        bench.play(&rt, text, [(2, Ok((Request::Local, 2, 0)))])?;
+        bench.play(&rt, text, [(2, done(Request::Local, 2, 0))])?;
         assert_eq!(rt; bench.damage(85, 3), 1);
-        bench.play(&rt, text, [(2, Err([6, 0, 1, 0, 0]))])
+        bench.play(&rt, text, [(2, waits(0, 1))])
     }
 
     // Two arcs to 0:1: it waits for the first whose source is not done.
@@ -454,14 +390,14 @@ mod tests {
         let mut bench = Bench::new(store_of(first, second, third));
         assert_eq!(rt; bench.open(SIZES), Ok(()));
         let steps = [
-            (0, Err([6, 2, 1, 0, 0])),
-            (2, Ok((read(1), 1, 0))),
-            (0, Err([6, 1, 1, 0, 0])),
-            (1, Ok((read(0), 1, 0))),
-            (0, Ok((write(0, 7), 1, 0))),
+            (0, waits(2, 1)),
+            (2, done(read(1), 1, 0)),
+            (0, waits(1, 1)),
+            (1, done(read(0), 1, 0)),
+            (0, done(write(0, 7), 1, 0)),
         ];
         bench.play(&rt, WORKED, steps)?;
-        assert_eq!(rt; bench.run(), (Ok((true, 0)), [7, 0]));
+        assert_eq!(rt; bench.run(), (Ok(Ended::Finished(0)), [7, 0]));
         Ok(())
     }
 
@@ -509,20 +445,20 @@ mod tests {
         cells: &mut [u16],
         store: &[u8],
     ) -> Result<(), Fail> {
-        assert_eq!(rt; open(replayer, LARGEST, cores, cells, store), 0);
+        assert_eq!(rt; replayer.open(LARGEST, cores, cells, store), Ok(()));
         let steps = [
-            (3, Err([6, 2, 1, 0, 0])),
-            (2, Ok((read(255), 1, 5))),
-            (3, Err([6, 1, 1, 0, 0])),
-            (0, Ok((read(255), 1, 5))),
-            (3, Err([6, 1, 1, 0, 0])),
-            (1, Ok((read(255), 1, 5))),
-            (3, Ok((write(255, 258), 1, 0))),
-            (3, Err([7, 0, 0, 0, 0])),
-            (4, Err([1, 0, 0, 0, 0])),
+            (3, waits(2, 1)),
+            (2, done(read(255), 1, 5)),
+            (3, waits(1, 1)),
+            (0, done(read(255), 1, 5)),
+            (3, waits(1, 1)),
+            (1, done(read(255), 1, 5)),
+            (3, done(write(255, 258), 1, 0)),
+            (3, Err(StepRefusal::Replayed)),
+            (4, Err(StepRefusal::NoSuchCore)),
         ];
         for (core, expected) in steps {
-            assert_eq!(rt; step(replayer, text, cores, cells, store, core), expected);
+            assert_eq!(rt; replayer.step(text, cores, cells, store, core), expected);
         }
         Ok(())
     }
@@ -541,9 +477,9 @@ mod tests {
         assert!(rt; cells == cells_with_the_last(258));
         cores = four_cores();
         cells = cells_with_the_last(5);
-        assert_eq!(rt; open(&mut replayer, LARGEST, &cores, &cells, &store), 0);
+        assert_eq!(rt; replayer.open(LARGEST, &cores, &cells, &store), Ok(()));
         let run = replayer.run(text, &mut cores, &mut cells, &store);
-        assert_eq!(rt; outcome(run), Ok((true, 4)));
+        assert_eq!(rt; run, Ok(Ended::Finished(4)));
         assert!(rt; cells == cells_with_the_last(258));
         Ok(())
     }
@@ -579,13 +515,13 @@ mod tests {
         let mut cores = [RegisterCore::new(0)];
         let mut cells = [3];
         assert_eq!(rt;
-            open(&mut replayer, sizes(1, 1, 12), &cores, &cells, &store),
-            0
+            replayer.open(sizes(1, 1, 12), &cores, &cells, &store),
+            Ok(())
         );
         let run = replayer.run(ENDLESS, &mut cores, &mut cells, &store);
-        assert_eq!(rt; outcome(run), Ok((true, 65535)));
-        let more = step(&mut replayer, ENDLESS, &mut cores, &mut cells, &store, 0);
-        assert_eq!(rt; more, Err([7, 0, 0, 0, 0]));
+        assert_eq!(rt; run, Ok(Ended::Finished(65535)));
+        let more = replayer.step(ENDLESS, &mut cores, &mut cells, &store, 0);
+        assert_eq!(rt; more, Err(StepRefusal::Replayed));
         assert_eq!(rt; cells, [3]);
         Ok(())
     }
@@ -639,16 +575,15 @@ mod tests {
         store: &[u8],
     ) -> Result<(), Fail> {
         for number in 1..=1000 {
-            let count = number as usize;
             let exchange = Request::Exchange { cell: 0, number };
-            let waits = step(replayer, text, cores, cells, store, 1);
-            assert_eq!(rt; waits, Err([6, 0, count, 0, 0]));
-            let first = step(replayer, text, cores, cells, store, 0);
-            assert_eq!(rt; first, Ok((exchange, number, number - 1)));
-            let waits = step(replayer, text, cores, cells, store, 0);
-            assert_eq!(rt; waits, Err([6, 1, count, 0, 0]));
-            let second = step(replayer, text, cores, cells, store, 1);
-            assert_eq!(rt; second, Ok((exchange, number, number)));
+            let waiting = replayer.step(text, cores, cells, store, 1);
+            assert_eq!(rt; waiting, waits(0, number));
+            let first = replayer.step(text, cores, cells, store, 0);
+            assert_eq!(rt; first, done(exchange, number, number - 1));
+            let waiting = replayer.step(text, cores, cells, store, 0);
+            assert_eq!(rt; waiting, waits(1, number));
+            let second = replayer.step(text, cores, cells, store, 1);
+            assert_eq!(rt; second, done(exchange, number, number));
         }
         Ok(())
     }
@@ -672,15 +607,15 @@ mod tests {
         let mut replayer = Replayer::new();
         let mut cores = [ScriptCore::new(0); 2];
         let mut cells = [0];
-        assert_eq!(rt; open(&mut replayer, FULL, &cores, &cells, store), 0);
+        assert_eq!(rt; replayer.open(FULL, &cores, &cells, store), Ok(()));
         let whole = replayer.run(text, &mut cores, &mut cells, store);
-        assert_eq!(rt; (outcome(whole), cells), (Ok((true, 4677)), [2339]));
+        assert_eq!(rt; (whole, cells), (Ok(Ended::Finished(4677)), [2339]));
         cores = [ScriptCore::new(0); 2];
         cells = [0];
-        assert_eq!(rt; open(&mut replayer, FULL, &cores, &cells, store), 0);
+        assert_eq!(rt; replayer.open(FULL, &cores, &cells, store), Ok(()));
         step_full(&rt, &mut replayer, text, &mut cores, &mut cells, store)?;
         let rest = replayer.run(text, &mut cores, &mut cells, store);
-        assert_eq!(rt; (outcome(rest), cells), (Ok((true, 2677)), [2339]));
+        assert_eq!(rt; (rest, cells), (Ok(Ended::Finished(2677)), [2339]));
         Ok(())
     }
 }

@@ -6,7 +6,7 @@ use records::faults::{Refusal, SessionFault};
 use records::format::Source;
 
 // An instruction that was carried out: its request, its count, and the number that it brought.
-#[derive(Clone, Copy)]
+#[derive(Clone, Copy, PartialEq, Eq, Debug)]
 pub struct Done {
     pub request: Request,
     pub count: u16,
@@ -14,7 +14,7 @@ pub struct Done {
 }
 
 // Why a step is refused, or waits: 1 no such core, 2 halted, 4 no such cell, 6 waits, 7 replayed, 8 bad setting, 9 log fault.
-#[derive(Clone, Copy)]
+#[derive(Clone, Copy, PartialEq, Eq, Debug)]
 pub enum StepRefusal {
     NoSuchCore,
     Halted,
@@ -37,7 +37,7 @@ impl From<Refusal> for StepRefusal {
 }
 
 // How a run ended, with the steps that it carried out.
-#[derive(Clone, Copy)]
+#[derive(Clone, Copy, PartialEq, Eq, Debug)]
 pub enum Ended {
     Finished(u32),
     Stopped(u32),

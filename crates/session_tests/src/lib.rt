@@ -8,7 +8,7 @@ mod tests {
     use cores::script::ScriptCore;
     use recorder::recording::Recorded;
     use recorder::rules::Refusal;
-    use records::faults::Refusal as LogRefusal;
+    use records::format::Source;
     use records::settings::Sizes;
     use reducers::exact::Exact;
     use reducers::interface::Reducer;
@@ -35,62 +35,36 @@ mod tests {
         }
     }
 
-    fn code(refusal: Refusal) -> u16 {
-        match refusal {
-            Refusal::NoSuchCore => 1,
-            Refusal::Halted => 2,
-            Refusal::CountSpent => 3,
-            Refusal::NoSuchCell => 4,
-            Refusal::LogFull => 5,
-            Refusal::BadSetting => 8,
-        }
+    fn refusal_of<K: Core, R: Reducer + Drop>(error: NoSession<K, R>) -> Refusal {
+        error.refusal
     }
 
-    fn error_code<K: Core, R: Reducer + Drop>(error: NoSession<K, R>) -> u16 {
-        code(error.refusal)
+    type Turn = Result<Recorded, Refusal>;
+
+    // A turn that is carried out.
+    fn recorded(request: Request, count: u16, number: u16, arcs: u16) -> Turn {
+        Ok(Recorded {
+            request,
+            count,
+            number,
+            arcs,
+        })
     }
 
-    // A refusal's code, and with 6 the core and count waited for.
-    type StepCode = [u16; 3];
+    type Step = Result<Done, StepRefusal>;
 
-    fn step_code(refusal: StepRefusal) -> StepCode {
-        match refusal {
-            StepRefusal::NoSuchCore => [1, 0, 0],
-            StepRefusal::Halted => [2, 0, 0],
-            StepRefusal::NoSuchCell => [4, 0, 0],
-            StepRefusal::Waits(on) => [6, on.core as u16, on.count],
-            StepRefusal::Replayed => [7, 0, 0],
-            StepRefusal::BadSetting => [8, 0, 0],
-            StepRefusal::LogFault(_) => [9, 0, 0],
-        }
+    // A step that is carried out.
+    fn done(request: Request, count: u16, number: u16) -> Step {
+        Ok(Done {
+            request,
+            count,
+            number,
+        })
     }
 
-    // The request, its count, the number that it brought and how many arcs were logged, or a refusal's code.
-    type Turn = Result<(Request, u16, u16, u16), u16>;
-
-    fn turn(answer: &Result<Recorded, Refusal>) -> Turn {
-        match *answer {
-            Ok(r) => Ok((r.request, r.count, r.number, r.arcs)),
-            Err(refusal) => Err(code(refusal)),
-        }
-    }
-
-    // The request, its count and the number that it brought, or a refusal's code.
-    type Step = Result<(Request, u16, u16), StepCode>;
-
-    fn step(answer: &Result<Done, StepRefusal>) -> Step {
-        match *answer {
-            Ok(done) => Ok((done.request, done.count, done.number)),
-            Err(refusal) => Err(step_code(refusal)),
-        }
-    }
-
-    // How many steps a run that finished carried out.
-    fn finished(ended: Result<Ended, LogRefusal>) -> Option<u32> {
-        match ended {
-            Ok(Ended::Finished(steps)) => Some(steps),
-            Ok(Ended::Stopped(_)) | Err(_) => None,
-        }
+    // A step that waits for instruction `count` of `core`.
+    fn waits(core: u8, count: u16) -> Step {
+        Err(StepRefusal::Waits(Source { core, count }))
     }
 
     fn read(cell: u16) -> Request {
@@ -103,31 +77,6 @@ mod tests {
 
     fn exchange(cell: u16, number: u16) -> Request {
         Request::Exchange { cell, number }
-    }
-
-    // Each turn, and each step, in order is answered so.
-    fn turns_are(
-        rt: &impl Abort,
-        answers: &[Result<Recorded, Refusal>],
-        expected: &[Turn],
-    ) -> Result<(), Fail> {
-        assert_eq!(rt; answers.len(), expected.len());
-        for (answer, says) in answers.iter().zip(expected) {
-            assert_eq!(rt; turn(answer), *says);
-        }
-        Ok(())
-    }
-
-    fn steps_are(
-        rt: &impl Abort,
-        answers: &[Result<Done, StepRefusal>],
-        expected: &[Step],
-    ) -> Result<(), Fail> {
-        assert_eq!(rt; answers.len(), expected.len());
-        for (answer, says) in answers.iter().zip(expected) {
-            assert_eq!(rt; step(answer), *says);
-        }
-        Ok(())
     }
 
     // What each turn and each step answers, the replay's cells behind the steps, how many steps the run then carries out,
@@ -146,11 +95,11 @@ mod tests {
         session: &Session<K, R>,
         expected: Expected,
     ) -> Result<(), Fail> {
-        turns_are(rt, session.turns.as_slice(), expected.turns)?;
-        assert!(rt; session.opened.is_ok());
-        steps_are(rt, session.steps.as_slice(), expected.steps)?;
+        assert_eq!(rt; session.turns.as_slice(), expected.turns);
+        assert_eq!(rt; session.opened, Ok(()));
+        assert_eq!(rt; session.steps.as_slice(), expected.steps);
         assert_eq!(rt; session.stepped_cells.as_slice(), expected.stepped);
-        assert_eq!(rt; finished(session.ended), Some(expected.run));
+        assert_eq!(rt; session.ended, Ok(Ended::Finished(expected.run)));
         assert_eq!(rt; session.cells.as_slice(), expected.cells);
         Ok(())
     }
@@ -180,7 +129,7 @@ mod tests {
         let session = record_and_replay(
             space, reducer, asked, WORKED, &mut cores, &mut cells, &mut store, turns, steps,
         )
-        .map_err(error_code)?;
+        .map_err(refusal_of)?;
         Ok((session, cells))
     }
 
@@ -196,20 +145,20 @@ mod tests {
         let (session, cells) = worked_session(heap, reducer, 33, &turns, &steps)?;
         let expected = Expected {
             turns: &[
-                Ok((write(0, 7), 1, 0, 0)),
-                Ok((read(0), 1, 7, 1)),
-                Ok((write(1, 9), 2, 0, 0)),
-                Ok((read(1), 1, 9, 1)),
-                Ok((write(0, 4), 2, 0, last)),
+                recorded(write(0, 7), 1, 0, 0),
+                recorded(read(0), 1, 7, 1),
+                recorded(write(1, 9), 2, 0, 0),
+                recorded(read(1), 1, 9, 1),
+                recorded(write(0, 4), 2, 0, last),
             ],
             steps: &[
-                Err([6, 1, 2]),
-                Err([6, 0, 1]),
-                Ok((write(0, 7), 1, 0)),
-                Err([7, 0, 0]),
-                Err([1, 0, 0]),
-                Ok((read(0), 1, 7)),
-                Err([6, 1, 2]),
+                waits(1, 2),
+                waits(0, 1),
+                done(write(0, 7), 1, 0),
+                Err(StepRefusal::Replayed),
+                Err(StepRefusal::NoSuchCore),
+                done(read(0), 1, 7),
+                waits(1, 2),
             ],
             stepped: &[7, 0],
             run: 3,
@@ -238,24 +187,24 @@ mod tests {
         let (session, cells) = worked_session(rt.alloc(), Exact::new(), 33, &turns, &steps)?;
         let expected = Expected {
             turns: &[
-                Err(1),
-                Ok((write(0, 7), 1, 0, 0)),
-                Err(2),
-                Ok((read(0), 1, 7, 1)),
-                Ok((write(1, 9), 2, 0, 0)),
-                Err(1),
-                Ok((read(1), 1, 9, 1)),
-                Err(2),
-                Ok((write(0, 4), 2, 0, 0)),
-                Err(2),
+                Err(Refusal::NoSuchCore),
+                recorded(write(0, 7), 1, 0, 0),
+                Err(Refusal::Halted),
+                recorded(read(0), 1, 7, 1),
+                recorded(write(1, 9), 2, 0, 0),
+                Err(Refusal::NoSuchCore),
+                recorded(read(1), 1, 9, 1),
+                Err(Refusal::Halted),
+                recorded(write(0, 4), 2, 0, 0),
+                Err(Refusal::Halted),
             ],
             steps: &[
-                Ok((write(0, 7), 1, 0)),
-                Ok((read(0), 1, 7)),
-                Ok((write(1, 9), 2, 0)),
-                Ok((read(1), 1, 9)),
-                Ok((write(0, 4), 2, 0)),
-                Err([7, 0, 0]),
+                done(write(0, 7), 1, 0),
+                done(read(0), 1, 7),
+                done(write(1, 9), 2, 0),
+                done(read(1), 1, 9),
+                done(write(0, 4), 2, 0),
+                Err(StepRefusal::Replayed),
             ],
             stepped: &[4, 9],
             run: 0,
@@ -274,20 +223,20 @@ mod tests {
         let (session, cells) = worked_session(rt.alloc(), Exact::new(), 26, &turns, &steps)?;
         let expected = Expected {
             turns: &[
-                Ok((write(0, 7), 1, 0, 0)),
-                Ok((read(0), 1, 7, 1)),
-                Err(5),
-                Ok((read(1), 1, 0, 0)),
-                Ok((write(0, 4), 2, 0, 1)),
+                recorded(write(0, 7), 1, 0, 0),
+                recorded(read(0), 1, 7, 1),
+                Err(Refusal::LogFull),
+                recorded(read(1), 1, 0, 0),
+                recorded(write(0, 4), 2, 0, 1),
             ],
             steps: &[
-                Ok((read(1), 1, 0)),
-                Err([6, 1, 1]),
-                Err([6, 0, 1]),
-                Ok((write(0, 7), 1, 0)),
-                Ok((read(0), 1, 7)),
-                Ok((write(0, 4), 2, 0)),
-                Err([7, 0, 0]),
+                done(read(1), 1, 0),
+                waits(1, 1),
+                waits(0, 1),
+                done(write(0, 7), 1, 0),
+                done(read(0), 1, 7),
+                done(write(0, 4), 2, 0),
+                Err(StepRefusal::Replayed),
             ],
             stepped: &[4, 0],
             run: 0,
@@ -321,7 +270,7 @@ mod tests {
             turns,
             steps,
         )
-        .map_err(error_code)?;
+        .map_err(refusal_of)?;
         Ok(session)
     }
 
@@ -337,18 +286,18 @@ mod tests {
         let session = two_core_session(rt.alloc(), text, &mut cores, &mut cells, &turns, &steps)?;
         let expected = Expected {
             turns: &[
-                Ok((read(0), 1, 3, 0)),
-                Ok((write(0, 7), 2, 0, 0)),
-                Ok((read(1), 1, 8, 0)),
-                Ok((read(0), 2, 7, 1)),
-                Ok((write(1, 9), 3, 0, 0)),
+                recorded(read(0), 1, 3, 0),
+                recorded(write(0, 7), 2, 0, 0),
+                recorded(read(1), 1, 8, 0),
+                recorded(read(0), 2, 7, 1),
+                recorded(write(1, 9), 3, 0, 0),
             ],
             steps: &[
-                Ok((read(0), 1, 3)),
-                Ok((read(1), 1, 8)),
-                Err([6, 0, 2]),
-                Ok((write(0, 7), 2, 0)),
-                Ok((read(0), 2, 7)),
+                done(read(0), 1, 3),
+                done(read(1), 1, 8),
+                waits(0, 2),
+                done(write(0, 7), 2, 0),
+                done(read(0), 2, 7),
             ],
             stepped: &[7, 8],
             run: 1,
@@ -391,19 +340,19 @@ mod tests {
         )?;
         let expected = Expected {
             turns: &[
-                Ok((Request::Local, 1, 0, 0)),
-                Ok((Request::Local, 1, 0, 0)),
-                Ok((exchange(0, 5), 2, 9, 0)),
-                Ok((exchange(0, 262), 2, 5, 1)),
-                Ok((write(1, 5), 3, 0, 0)),
-                Err(2),
+                recorded(Request::Local, 1, 0, 0),
+                recorded(Request::Local, 1, 0, 0),
+                recorded(exchange(0, 5), 2, 9, 0),
+                recorded(exchange(0, 262), 2, 5, 1),
+                recorded(write(1, 5), 3, 0, 0),
+                Err(Refusal::Halted),
             ],
             steps: &[
-                Ok((Request::Local, 1, 0)),
-                Err([6, 0, 2]),
-                Ok((Request::Local, 1, 0)),
-                Ok((exchange(0, 5), 2, 9)),
-                Ok((exchange(0, 262), 2, 5)),
+                done(Request::Local, 1, 0),
+                waits(0, 2),
+                done(Request::Local, 1, 0),
+                done(exchange(0, 5), 2, 9),
+                done(exchange(0, 262), 2, 5),
             ],
             stepped: &[262, 0],
             run: 1,
@@ -438,7 +387,7 @@ mod tests {
             &[0],
             &[0],
         );
-        assert_eq!(rt; answer.map_err(error_code).err(), Some(8));
+        assert_eq!(rt; answer.map_err(refusal_of).err(), Some(Refusal::BadSetting));
         assert!(rt; cores.iter().all(|core| core.ask(WORKED) == write(0, 7)));
         assert!(rt; cells.iter().all(|number| *number == 5));
         assert!(rt; store.iter().all(|byte| *byte == 0xee));
@@ -502,8 +451,8 @@ mod tests {
             &[0],
             &[],
         )
-        .map_err(error_code)?;
-        assert_eq!(rt; finished(session.ended), Some(1));
+        .map_err(refusal_of)?;
+        assert_eq!(rt; session.ended, Ok(Ended::Finished(1)));
         assert_eq!(rt; [session.cells.len(), session.cores.len()], [256, 4]);
         assert_eq!(rt; [cells[0], cells[1], cells[256]], [7, 5, 5]);
         assert!(rt; store[16383..].starts_with(b"\xee\xee"));
@@ -536,7 +485,7 @@ mod tests {
                 &[0],
                 &[0],
             );
-            assert_eq!(rt; answer.map_err(error_code).err(), Some(8));
+            assert_eq!(rt; answer.map_err(refusal_of).err(), Some(Refusal::BadSetting));
             assert!(rt; store.iter().all(|byte| *byte == 0xee));
         }
         let space = SessionBuffers::reserve(heap, asked, 1, 0)?;
@@ -565,8 +514,8 @@ mod tests {
             &[0],
             &[],
         )
-        .map_err(error_code)?;
-        assert_eq!(rt; finished(session.ended), Some(1));
+        .map_err(refusal_of)?;
+        assert_eq!(rt; session.ended, Ok(Ended::Finished(1)));
         assert!(rt; session.stepped_cells.as_slice() == [0, 0].as_slice());
         assert!(rt; session.cells.as_slice() == [7, 0].as_slice());
         Ok(())
