@@ -17,9 +17,7 @@ fn copy_records(from: Reader, sizes: Sizes, core: usize, out: &mut [u8])
     requires fitting { fits (length out.old) sizes ≡ true }
     requires inside { core < sizes.cores }
     requires short { length (view from).log ≤ sizes.log_bytes }
-    ensures {
-        out.new ≡ copied sizes core from.entry.cursor (reading_from (view from.entry)).entries out.old
-    }
+    ensures { out.new ≡ copied sizes core from.entry.cursor (reading_from (view from.entry)).entries out.old }
 {
     let mut reader = from;
     let mut offset = reader.offset();
@@ -38,10 +36,8 @@ fn copy_records(from: Reader, sizes: Sizes, core: usize, out: &mut [u8])
 // Writes the records of every log.
 fn copy_logs(logs: Logs, out: &mut [u8])
     requires { fits (length out.old) logs.sizes ≡ true }
-    ensures {
-        let z = logs.entry.sizes in
-        out.new ≡ all_copied logs.entry.store.now z z.cores 0 out.old
-    }
+    ensures { let z = logs.entry.sizes in
+        out.new ≡ all_copied logs.entry.store.now z z.cores 0 out.old }
 {
     for core in 0..logs.cores() {
         // each core below them has a log

@@ -45,10 +45,8 @@ impl Placement<'_> {
     // Puts the record there, and gives the offset behind it.
     #[inline(always)]
     pub fn put(self) -> usize
-        ensures bytes {
-            let p = self.entry in
-            self.exit.0.now ≡ put_at p.store.now p.sizes p.core p.offset (entry p.record)
-        }
+        ensures bytes { let p = self.entry in
+            self.exit.0.now ≡ put_at p.store.now p.sizes p.core p.offset (entry p.record) }
         ensures behind { result ≡ behind self.entry.offset (entry self.entry.record) }
     {
         let Placement {
@@ -73,10 +71,8 @@ pub fn write_record(
     offset: usize,
     record: Record,
 ) -> Result<usize, Refusal>
-    ensures {
-        record { says = behind_as result; store = store.new }
-        ≡ write_at store.old sizes core offset (entry «record»)
-    }
+    ensures { record { says = behind_as result; store = store.new }
+        ≡ write_at store.old sizes core offset (entry «record») }
 {
     let size = record.size();
     if !sizes.fit(store.len())

@@ -34,10 +34,10 @@ module _ (c : In-Ok-Some) where
 
 pub loop-record-init : goal.loop-record-init
 loop-record-init c = (
-    c.offset-offset.ensures,
-    c.requires.short,
-    reading_starts (λ x. copied c.args.sizes c.args.core c.args.from.cursor x.entries c.args.out.now) (view c.args.from),
-  )
+  c.offset-offset.ensures,
+  c.requires.short,
+  reading_starts (λ x. copied c.args.sizes c.args.core c.args.from.cursor x.entries c.args.out.now) (view c.args.from),
+)
 
 pub invariant_of-placement-clause-room : goal.invariant_of-placement-clause-room
 invariant_of-placement-clause-room c = room (goal.at.invariant_of-placement-clause-room c).In-Ok-Some
