@@ -12,30 +12,39 @@ use std::fmt::Write;
 const INPUT_BYTES_AT_MOST: usize = 1_500;
 const STORE_BYTES_AT_MOST: usize = 600;
 
-/// The first `cases` cases of a seed that the table has room and letters for.
-pub fn table(seed: u64, cases: u64) -> String {
-    (0..)
-        .filter_map(|number| match case(seed, number) {
-            Case::Bench(case) => bench_lines(&case),
-            Case::Inspector(case) => inspector_lines(&case),
-        })
-        .take(cases as usize)
-        .collect()
+/// The lines that ask, and the text expected in answer.
+struct Entry {
+    asked: String,
+    text: String,
 }
 
-fn bench_lines(case: &BenchCase) -> Option<String> {
+/// The first `cases` cases of a seed that the table has room and letters for, and behind them those of `spoiled`.
+pub fn table(seed: u64, cases: u64) -> String {
+    let entries: Vec<Entry> = (0..)
+        .filter_map(|number| match case(seed, number) {
+            Case::Bench(case) => bench_entry(&case),
+            Case::Inspector(case) => inspector_entry(&case),
+        })
+        .take(cases as usize)
+        .collect();
+    let spoiled = spoiled(&entries);
+    entries.iter().chain(&spoiled).map(lines).collect()
+}
+
+fn bench_entry(case: &BenchCase) -> Option<Entry> {
     let plain = |&byte: &u8| byte == b'\n' || (b' '..=b'~').contains(&byte);
     if case.input.len() > INPUT_BYTES_AT_MOST || !case.input.iter().all(plain) {
         return None;
     }
-    let mut lines = String::new();
+    let mut asked = String::new();
     for line in String::from_utf8_lossy(&case.input).split('\n') {
-        let _ = writeln!(lines, "in {line}");
+        let _ = writeln!(asked, "in {line}");
     }
-    Some(lines + &out_lines(&answer(&case.input).text))
+    let text = answer(&case.input).text;
+    Some(Entry { asked, text })
 }
 
-fn inspector_lines(case: &InspectorCase) -> Option<String> {
+fn inspector_entry(case: &InspectorCase) -> Option<Entry> {
     let File::Store(store) = &case.file else {
         return None;
     };
@@ -56,14 +65,74 @@ fn inspector_lines(case: &InspectorCase) -> Option<String> {
     } else {
         hexadecimal(store)
     };
-    let line = format!("log {cores} {cells} {log_bytes} {bytes}\n");
-    Some(line + &out_lines(&listing(setting, store)))
+    Some(Entry {
+        asked: format!("log {cores} {cells} {log_bytes} {bytes}\n"),
+        text: listing(setting, store),
+    })
 }
 
-/// The expected lines, and the empty line behind a case.
-fn out_lines(text: &str) -> String {
-    let mut lines = String::new();
-    for line in text.lines() {
+/// Five cases whose expected text is wrong on purpose, so that a comparison that does not compare is seen: of a session with two arcs
+/// or more, and of the first store that is refused.
+fn spoiled(entries: &[Entry]) -> Vec<Entry> {
+    let Some(session) = entries.iter().find(|entry| {
+        let mut lines = entry.text.lines();
+        let first = lines.next().filter(|line| line.starts_with("arc"));
+        let second = lines.next().filter(|line| line.starts_with("arc"));
+        second.is_some() && first != second
+    }) else {
+        return Vec::new();
+    };
+    let Some(store) = entries
+        .iter()
+        .find(|entry| entry.asked.starts_with("log") && entry.text.contains("layer"))
+    else {
+        return Vec::new();
+    };
+    let text = session.text.as_str();
+    [
+        (session, last_byte_changed(text)),
+        (session, first_lines_swapped(text)),
+        (session, first_line_missing(text)),
+        (session, text.trim_end().to_string() + "0\n"),
+        (store, verdict_changed(&store.text)),
+    ]
+    .map(|(entry, text)| Entry {
+        asked: entry.asked.clone(),
+        text,
+    })
+    .into()
+}
+
+/// The last byte before the newline: it is a digit.
+fn last_byte_changed(text: &str) -> String {
+    let mut text = text.trim_end().to_string();
+    let other = if text.pop() == Some('1') { '2' } else { '1' };
+    text + &format!("{other}\n")
+}
+
+/// Another text of the same length.
+fn first_lines_swapped(text: &str) -> String {
+    let mut lines: Vec<&str> = text.lines().collect();
+    lines.swap(0, 1);
+    lines.join("\n") + "\n"
+}
+
+fn first_line_missing(text: &str) -> String {
+    text.split_inclusive('\n').skip(1).collect()
+}
+
+/// The last line says that the store is accepted.
+fn verdict_changed(text: &str) -> String {
+    let mut lines: Vec<&str> = text.lines().collect();
+    lines.pop();
+    lines.push("accepted");
+    lines.join("\n") + "\n"
+}
+
+/// The lines of a case: what is asked, what is expected, and an empty line.
+fn lines(entry: &Entry) -> String {
+    let mut lines = entry.asked.clone();
+    for line in entry.text.lines() {
         let _ = writeln!(lines, "out {line}");
     }
     lines.push('\n');

@@ -5,71 +5,67 @@
 
 mod stores;
 
-use crate::stores::listed;
-use bench_answer::answer::answer;
+use crate::stores::store_of;
+use anyhow::Context;
+use comparing::cases::{Asked, Case, compare};
 use std::alloc::{AllocError, Global};
 
-// The input of the latest case so far, or the listing of its store; the lines expected; and how many cases agreed and differed.
+// A case whose lines are being read.
 #[derive(Drop)]
-struct Comparison {
+struct Reading {
     input: String,
-    listing: Option<String>,
+    store: Option<Asked>,
     expected: String,
-    agreed: usize,
-    differed: usize,
 }
 
-impl Comparison {
-    fn new(heap: Global) -> Comparison {
-        Comparison {
+impl Reading {
+    fn new(heap: Global) -> Reading {
+        Reading {
             input: String::new(heap),
-            listing: None,
+            store: None,
             expected: String::new(heap),
-            agreed: 0,
-            differed: 0,
         }
     }
 
-    // Counts the case that ends here, and begins another.
-    fn settle(&mut self, heap: Global) -> Result<(), AllocError> {
-        let answered = match self.listing.take() {
-            Some(text) => text,
-            None => answer(heap, self.input.as_bytes())?,
-        };
-        if answered.as_bytes() == self.expected.as_bytes() {
-            self.agreed = self.agreed.saturating_add(1);
-        } else {
-            self.differed = self.differed.saturating_add(1);
-        }
-        self.input = String::new(heap);
-        self.expected = String::new(heap);
-        Ok(())
-    }
-
-    fn take(&mut self, heap: Global, line: &str) -> Result<(), AllocError> {
+    fn take(&mut self, heap: Global, line: &str) -> anyhow::Result<()> {
         if let Some(text) = line.strip_prefix("in ") {
             self.input.push_str(text)?;
             self.input.push_str("\n")?;
         } else if let Some(words) = line.strip_prefix("log ") {
-            self.listing = Some(listed(heap, words)?);
-        } else if let Some(text) = line.strip_prefix("out ") {
+            self.store = Some(store_of(heap, words)?.context("a line `log` with other words")?);
+        } else {
+            let text = line.strip_prefix("out ").context("a line of no kind")?;
             self.expected.push_str(text)?;
             self.expected.push_str("\n")?;
-        } else {
-            self.settle(heap)?;
         }
         Ok(())
+    }
+
+    fn case(self) -> Case {
+        let input = self.input;
+        Case {
+            asked: self.store.unwrap_or(Asked::Bench { input }),
+            expected: self.expected,
+        }
     }
 }
 
 fn main(rt: HostRuntime) -> anyhow::Result<()> {
     let heap = rt.alloc();
-    let mut comparison = Comparison::new(heap);
+    let mut cases = Vec::new(heap);
+    let mut reading = Reading::new(heap);
     for line in rt.lines(heap) {
-        comparison.take(heap, line?.as_str())?;
+        let line = line?;
+        if line.is_empty() {
+            cases.push(reading.case())?;
+            reading = Reading::new(heap);
+        } else {
+            reading.take(heap, line.as_str())?;
+        }
     }
-    let agreed = comparison.agreed;
-    let differed = comparison.differed;
+    let tally = compare(heap, cases.as_slice())?;
+    let agreed = tally.agreed;
+    let differed = tally.differed;
     println!(rt; "{agreed} cases agree, {differed} differ")?;
     Ok(())
 }

@@ -1,4 +1,4 @@
-use listing::listing::list_logs;
+use comparing::cases::Asked;
 use listing::words::number_of;
 use records::settings::Sizes;
 use std::alloc::{AllocError, Global};
@@ -23,23 +23,20 @@ fn byte_of(pair: &[u8]) -> Option<u8> {
     u8::try_from(high * 16 + low).ok()
 }
 
-// The inspector's text for a store and sizes, as a table writes them; nothing for other words.
-pub(crate) fn listed(heap: Global, words: &str) -> Result<String, AllocError> {
-    let words: Vec<&str> = words.split(' ').collect(heap)?;
-    let [cores, cells, log_bytes, digits] = words.as_slice() else {
-        return Ok(String::new(heap));
-    };
-    let bytes = bytes_of(heap, digits)?;
-    match sizes_of(cores, cells, log_bytes) {
-        Some(sizes) => list_logs(heap, bytes.as_slice(), sizes),
-        None => Ok(String::new(heap)),
-    }
-}
-
 fn sizes_of(cores: &str, cells: &str, log_bytes: &str) -> Option<Sizes> {
     Some(Sizes {
         cores: number_of(cores.as_bytes())?,
         cells: number_of(cells.as_bytes())?,
         log_bytes: number_of(log_bytes.as_bytes())?,
     })
+}
+
+// A store and its sizes, as a table writes them; none for other words.
+pub(crate) fn store_of(heap: Global, words: &str) -> Result<Option<Asked>, AllocError> {
+    let words: Vec<&str> = words.split(' ').collect(heap)?;
+    let [cores, cells, log_bytes, digits] = words.as_slice() else {
+        return Ok(None);
+    };
+    let store = bytes_of(heap, digits)?;
+    Ok(sizes_of(cores, cells, log_bytes).map(|sizes| Asked::Inspect { store, sizes }))
 }
