@@ -1,11 +1,11 @@
-// Tests of the listing: a store with each of the six causes, and stores of arbitrary bytes.
+// Tests of the listing: a store with each of the six causes, stores of arbitrary bytes, and a store of the largest size.
 #![tactic(auto)]
 
 #[cfg(test)]
 mod tests {
     use listing::listing::list_logs;
     use records::settings::Sizes;
-    use std::alloc::Global;
+    use std::alloc::{AllocError, Global};
     use std::process::Abort;
     use std::test::Fail;
 
@@ -86,6 +86,40 @@ mod tests {
         assert!(rt;
             list_logs(heap, &[0xff; 20], sizes)?.as_str().starts_with(
                 "log of core 0\nrefused: layer 1 fault in the log of core 0 at offset 0, cause 2",
+            )
+        );
+        Ok(())
+    }
+
+    // A log of 16,384 bytes with as many arcs as it holds: 2,338.
+    fn push_full_log(store: &mut Vec<u8>, core: u8) -> Result<(), AllocError> {
+        store.extend_from_slice(&[0x48, 0x43, core, 4, 0, 1])?;
+        for target in 1..=2338u16 {
+            let [high, low] = target.to_be_bytes();
+            store.extend_from_slice(&[0x41, 0x52, core ^ 1, 0, 1, high, low])?;
+        }
+        store.extend_from_slice(&[0x45, 0x44, 0x09, 0x22, 0x09, 0x22, 0, 0, 0, 0, 0, 0])?;
+        Ok(())
+    }
+
+    #[test]
+    fn largest_store(rt: HostRuntime) -> Result<(), Fail> {
+        let heap = rt.alloc();
+        let mut store = Vec::new(heap);
+        for core in 0..4 {
+            push_full_log(&mut store, core)?;
+        }
+        assert_eq!(rt; store.len(), 65536);
+        let sizes = Sizes {
+            cores: 4,
+            cells: 1,
+            log_bytes: 16384,
+        };
+        let text = list_logs(heap, store.as_slice(), sizes)?;
+        assert_eq!(rt; text.lines().count(), 4 * (1 + 1 + 2338 + 1) + 1);
+        assert!(rt;
+            text.as_str().ends_with(
+                "  16365 arc from 2:1 to 3:2338\n  16372 end 2338 instructions, 2338 arcs\naccepted\n",
             )
         );
         Ok(())
