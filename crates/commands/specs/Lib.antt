@@ -1,0 +1,3 @@
+pub mod Endings
+pub mod Bench
+pub mod Inspect
