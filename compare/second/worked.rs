@@ -194,7 +194,7 @@ fn run_8_the_least_log() {
 }
 
 #[test]
-fn knowledge_of_today_is_not_handed_on() {
+fn current_knowledge_is_not_handed_on() {
     let session = scripts(
         2,
         Reducer::Exact,

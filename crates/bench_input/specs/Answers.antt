@@ -7,7 +7,7 @@ use Rattle.bench_input.specs.declared.reading.Layout.{Layout}
 use Rattle.bench_input.specs.Described.{cores_of, text_of, starts_of, turns_of, sized}
 use Rattle.bench_input.specs.Session.{Session, session_of, Describes}
 
--- the value, or `Bad` where there is none; for want of memory nothing is said
+-- the value, or `Bad` where there is none; where memory runs out nothing is said
 abbrev pub Answers : {X Y : Type 0} → (X → Y) → Option Y → Result X InputError → Type 0
 Answers view o (Ok x) = o ≡ Some (view x)
 Answers view o (Err Bad) = o ≡ None

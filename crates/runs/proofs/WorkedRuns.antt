@@ -1,4 +1,4 @@
--- The run that the knowledge of today gets wrong, computed.
+-- The run that the source core's current knowledge gets wrong, computed.
 use Rattle.std.proofs.Common.{◌≡◌, ◌≤◌, ◌⊎◌, List, [], ◌∷◌, get_or, sym, refl, ap, ◌∙◌, subst, inl, inr, arith}
 use native.Mathlib.Decide.{ℕ_discrete, dec_le}
 use Rattle.cores.specs.Memory.{outcome, effect, plain}
@@ -7,14 +7,14 @@ use Rattle.runs.specs.Replay.{replayed}
 use Rattle.runs.specs.Runs.{read, write, ev, Instr, Conflict, program, link, chain}
 use Rattle.runs.specs.Recording.{Arc, arc, Reach}
 use Rattle.runs.specs.Reducers.{recorded, exact}
-use Rattle.runs.specs.Worked.{script, late_text, late_begun, late_turns, at, today, late_run, TodayLosesAnOrdering}
+use Rattle.runs.specs.Worked.{script, late_text, late_begun, late_turns, at, current_knowledge, late_run, CurrentKnowledgeLosesAnOrdering}
 use Rattle.runs.proofs.NoOrderingLost.{no_ordering_lost}
 use Rattle.runs.proofs.RecordingsExist.{recordings_exist}
 
 abbrev late_arcs : List Arc
 late_arcs = arc (at 0 1) (at 2 1) ∷ arc (at 1 1) (at 0 2) ∷ []
 
-logged_late : (recorded today late_run).arcs ≡ late_arcs
+logged_late : (recorded current_knowledge late_run).arcs ≡ late_arcs
 unfolding ℕ_discrete dec_le
 logged_late = refl
 
@@ -53,7 +53,7 @@ in_conflict = (
   ((λ q. omega (arith, q)), refl),
 )
 
-not_ordered : Reach late_run (recorded today late_run).arcs (at 1 1) (at 2 2) → ⊥
+not_ordered : Reach late_run (recorded current_knowledge late_run).arcs (at 1 1) (at 2 2) → ⊥
 not_ordered p = not_after (stays (inl refl) (subst (λ l. Reach late_run l (at 1 1) (at 2 2)) logged_late p))
 
 exact_late : (recorded exact late_run).arcs ≡ arc (at 1 1) (at 2 2) ∷ late_arcs
@@ -68,20 +68,20 @@ plain_reads : get_or (plain (script late_text) late_begun late_turns).states 2 [
 unfolding outcome effect
 plain_reads = refl
 
-replay_reads : get_or (replayed (script late_text) late_begun late_turns (recorded today late_run).arcs (2 ∷ 2 ∷ 0 ∷ [])).memory.states 2 [] ≡ 7 ∷ 0 ∷ []
+replay_reads : get_or (replayed (script late_text) late_begun late_turns (recorded current_knowledge late_run).arcs (2 ∷ 2 ∷ 0 ∷ [])).memory.states 2 [] ≡ 7 ∷ 0 ∷ []
 unfolding outcome effect ℕ_discrete dec_le
 replay_reads = refl
 
-pub today_loses_an_ordering : TodayLosesAnOrdering
-today_loses_an_ordering = record {
+pub ordering_lost : CurrentKnowledgeLosesAnOrdering
+ordering_lost = record {
   logged_exactly = exact_late;
-  logged_today = logged_late;
+  logged_currently = logged_late;
   in_conflict = in_conflict;
   not_ordered = not_ordered;
   is_late = is_late;
   plain_reads = plain_reads;
   replay_reads = replay_reads;
   out_of_bounds = λ k. not_ordered
-      ((no_ordering_lost late_run (recorded today late_run).numbers (recorded today late_run).arcs (recordings_exist.0 today k late_run) (at 1 1) (at 2 2)).1
+      ((no_ordering_lost late_run (recorded current_knowledge late_run).numbers (recorded current_knowledge late_run).arcs (recordings_exist.0 current_knowledge k late_run) (at 1 1) (at 2 2)).1
       (link in_conflict));
 }

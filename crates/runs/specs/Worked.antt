@@ -1,4 +1,4 @@
--- A run worked through that the source core's knowledge of today gets wrong; arcs are the newest first.
+-- A run worked through that the source core's current knowledge, in place of its stamp, gets wrong; arcs are the newest first.
 use Rattle.std.specs.Prelude.{◌≡◌, ℕ, max, cond, List, [], ◌∷◌, ◌==◌, slice_index_or}
 use Rattle.cores.specs.Script.{script_next, script_after}
 use Rattle.cores.specs.Memory.{Rules, rules, Memory, start, plain}
@@ -17,9 +17,9 @@ at j b = record { core = j; count = b }
 abbrev pub script : List ℕ → Rules
 script text = rules script_next script_after text
 
--- the error of recorders: the source core's knowledge of today in place of its stamp
-abbrev pub today : Reducer
-today = record {
+-- the error of recorders: the source core's current knowledge in place of its stamp
+abbrev pub current_knowledge : Reducer
+current_knowledge = record {
   take = λ n i a c w j. record {
     known = λ t k. cond (t == j) (max (n.known j k) (cond (k == i) a (n.known i k))) (n.known t k);
     written = n.written;
@@ -44,16 +44,16 @@ late_begun = start (0 ∷ 0 ∷ []) ((0 ∷ 0 ∷ []) ∷ (3 ∷ 0 ∷ []) ∷ (
 abbrev pub late_turns : List ℕ
 late_turns = 2 ∷ 2 ∷ 0 ∷ 1 ∷ 0 ∷ []
 
--- Core 0 learns of 1:1 only after 0:1, so 2:1, which reads what 0:1 wrote, need not follow 1:1. With core 0's knowledge of
--- today in place of the stamp of 0:1, the arc from 1:1 to 2:2 is not logged, and their conflict is not ordered: in the plain
--- memory 2:2 reads 9, in a replay that steps core 0 and then core 2 twice it reads 0.
-pub record TodayLosesAnOrdering : Type 0 where
+-- Core 0 learns of 1:1 only after 0:1, so 2:1, which reads what 0:1 wrote, need not follow 1:1. With core 0's current knowledge
+-- in place of the stamp of 0:1, the arc from 1:1 to 2:2 is not logged, and their conflict is not ordered: in the plain memory
+-- 2:2 reads 9, in a replay that steps core 0 and then core 2 twice it reads 0.
+pub record CurrentKnowledgeLosesAnOrdering : Type 0 where
   pub logged_exactly : (recorded exact late_run).arcs ≡ arc (at 1 1) (at 2 2) ∷ arc (at 0 1) (at 2 1) ∷ arc (at 1 1) (at 0 2) ∷ []
-  pub logged_today : (recorded today late_run).arcs ≡ arc (at 0 1) (at 2 1) ∷ arc (at 1 1) (at 0 2) ∷ []
+  pub logged_currently : (recorded current_knowledge late_run).arcs ≡ arc (at 0 1) (at 2 1) ∷ arc (at 1 1) (at 0 2) ∷ []
   pub in_conflict : Conflict late_run (at 1 1) (at 2 2)
-  pub not_ordered : Reach late_run (recorded today late_run).arcs (at 1 1) (at 2 2) → ⊥
-  pub out_of_bounds : Keeps ◌⊑◌ today → ⊥
+  pub not_ordered : Reach late_run (recorded current_knowledge late_run).arcs (at 1 1) (at 2 2) → ⊥
+  pub out_of_bounds : Keeps ◌⊑◌ current_knowledge → ⊥
   pub is_late : run (λ c. c) (script late_text) late_begun late_turns ≡ late_run
   pub plain_reads : slice_index_or (plain (script late_text) late_begun late_turns).states 2 [] ≡ 7 ∷ 9 ∷ []
-  pub replay_reads : slice_index_or (replayed (script late_text) late_begun late_turns (recorded today late_run).arcs (2 ∷ 2 ∷ 0 ∷ [])).memory.states 2 [] ≡
+  pub replay_reads : slice_index_or (replayed (script late_text) late_begun late_turns (recorded current_knowledge late_run).arcs (2 ∷ 2 ∷ 0 ∷ [])).memory.states 2 [] ≡
       7 ∷ 0 ∷ []

@@ -6,7 +6,7 @@ ghost use Rattle.cores.specs.Memory.{Rules, rules};
 ghost use Rattle.reducers.specs.Numbers.{◌⊑◌};
 ghost use Rattle.runs.specs.Theorems.{NoOrderingLost, LogsAreLawful, LogsFew, ExactLogsTheReduction, KnownMeansBefore, ExactIsLeast, DroppingLosesAnOrdering, CountsAgree, ReplayAgrees, ReplayOfARecordingAgrees, RecordingsExist, ThreeReducersAreBounded, ThreeReducersAreDecided, WaitsForSources, OwnLogIsEnough, PlacesKeepTheOrder, NewestFirst, CandidatesByCores};
 ghost use Rattle.runs.specs.Logged.{KeepAllLogsEveryCandidate, PairwiseLogsWhatIsNewer, TargetsAreLatestFirst};
-ghost use Rattle.runs.specs.Worked.{TodayLosesAnOrdering};
+ghost use Rattle.runs.specs.Worked.{CurrentKnowledgeLosesAnOrdering};
 
 use cores::interface::Core;
 use reducers::interface::Reducer;
@@ -126,7 +126,7 @@ pub fn candidates_are_found_by_cores()
     ensures { CandidatesByCores }
 {}
 
-// With the source core's knowledge of today in place of its stamp, a conflict of a given run is not ordered.
-pub fn knowledge_of_today_loses_an_ordering()
-    ensures { TodayLosesAnOrdering }
+// With the source core's current knowledge in place of its stamp, a conflict of a given run is not ordered.
+pub fn current_knowledge_loses_an_ordering()
+    ensures { CurrentKnowledgeLosesAnOrdering }
 {}
