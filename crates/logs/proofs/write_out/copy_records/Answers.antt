@@ -1,7 +1,7 @@
 -- In each round the record that was read has room at its place, and what is copied and what is still to be copied make the whole.
 use Rattle.std.proofs.Common.{◌≡◌, ◌≤◌, true, length, Some, Ok, sym, ap, ◌∙◌, arith}
 use Rattle.records.specs.Faults.{record_fault}
-use Rattle.records.specs.Format.{Entry, entry}
+use Rattle.records.specs.Format.{Entry, entry, record_numbers}
 use Rattle.records.specs.Reading.{View, view, said}
 use Rattle.records.specs.Settings.{fits}
 use Rattle.records.specs.Writing.{behind, write_at}
@@ -20,7 +20,7 @@ module _ (c : In-Ok-Some) where
   abbrev now : View
   now = view c.next_record.new.self
 
-  said_so : said c.next_record.result ≡ Ok (Some read)
+  said_so : said c.next_record.result ≡ Ok (Some (record_numbers read))
   said_so = ap said (c.in-Ok-Some.is ∙ ap Ok c.in-Ok-Some.field-0-is)
 
   fitting : fits (length c.loop-record.out) c.args.sizes ≡ true
