@@ -9,3 +9,4 @@ pub mod Memories
 pub mod GroupFaults
 pub mod FirstFaults
 pub mod Damaged
+mod Waiting

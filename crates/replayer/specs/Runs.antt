@@ -1,12 +1,15 @@
 -- What a run comes to: circles of steps.
-use Rattle.std.specs.Prelude.{◌≡◌, ℕ, zero, suc, ◌+◌, ◌-◌, ◌<◌, true, cond, ◌↔◌, List, [], ◌∷◌, length, Ok, Err, Result, ◌==◌, slice_index, slice_index_or}
+use Rattle.std.specs.Prelude.{◌≡◌, ℕ, zero, suc, ◌+◌, ◌-◌, ◌<◌, true, false, cond, ◌↔◌, List, [], ◌∷◌, length, Some, None, Ok, Err, Option, Result, ◌==◌, slice_index, slice_index_or}
 use Rattle.cores.specs.declared.interface.Request.{Request}
 use Rattle.records.specs.Faults.{bad_setting}
+use Rattle.records.specs.declared.format.Source.{Source}
 use Rattle.records.specs.declared.faults.Refusal.{Refusal}
 use Rattle.replayer.specs.declared.answers.Ended.{Ended}
 use Rattle.replayer.specs.declared.replay.Replayer.{Replayer}
 use Rattle.records.specs.Settings.{settled}
-use Rattle.replayer.specs.Steps.{Outcome, stepped}
+use Rattle.replayer.specs.Answers.{wait_numbers}
+use Rattle.replayer.specs.Groups.{is_done}
+use Rattle.replayer.specs.Steps.{Outcome, cleared, stepped}
 
 -- how many recorded instructions core j has left, and k cores from j on, and all
 abbrev pub left_at : Replayer → ℕ → ℕ
@@ -69,6 +72,15 @@ module _ (next : List ℕ → List ℕ → Request) (after : List ℕ → List �
       cond (settled R.sizes (length states) (length cells) (length store))
       (rounds (suc (left R)) (session 0 R cells states))
       (record { says = bad_setting; replayer = R; cells = cells; states = states })
+
+-- core j waits for a source that is known, as long as that is not done
+abbrev pub Awaits : List ℕ → Replayer → ℕ → ℕ → ℕ → Option Source → Type 0
+Awaits store R cores cells j None = Unit {0}
+Awaits store R cores cells j (Some s) = is_done R.done s ≡ false → cleared R cores cells store j ≡ Err (wait_numbers s)
+
+-- each core waits for its source, where one is known
+abbrev pub AllAwait : List ℕ → Replayer → ℕ → ℕ → List (Option Source) → Type 0
+AllAwait store R cores cells known = (j : ℕ) → Awaits store R cores cells j (slice_index_or known j None)
 
 -- a refused run changes no core
 abbrev pub RunKept : {K : Type 0} → Result Ended Refusal → List K → List K → Type 0

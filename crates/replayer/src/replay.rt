@@ -5,7 +5,7 @@ ghost use Rattle.records.specs.Settings.{no_sizes, SurplusKept};
 ghost use Rattle.replayer.specs.Answers.{step_numbers, run_numbers};
 ghost use Rattle.replayer.specs.Damaged.{StepExactly};
 ghost use Rattle.replayer.specs.Steps.{started, reopened, Bars, Grouped, WentOn, stepped, StepKept};
-ghost use Rattle.replayer.specs.Runs.{left, session, circled, ran, RunKept};
+ghost use Rattle.replayer.specs.Runs.{left, session, circled, ran, RunKept, Awaits, AllAwait};
 
 use crate::answers::{Done, Ended, StepRefusal};
 use crate::group::{Group, read_group};
@@ -13,7 +13,8 @@ use cores::acting::{act, cell_exists};
 use cores::interface::{Core, Request};
 use logs::session::read_logs;
 use records::faults::Refusal;
-use records::reading::SavedPlace;
+use records::format::Source;
+use records::reading::{SavedPlace, number_of};
 use records::settings::{CheckedSizes, Sizes};
 
 // A replay of a session's logs: its sizes, each core's recorded instructions and how many of them are done,
@@ -165,6 +166,39 @@ impl Replayer {
         })
     }
 
+    // One step of core `j`, which reads nothing where the source that the core is known to wait for is not done.
+    // From then on it is known what the core waits for.
+    fn step_or_wait<K: Core>(
+        &mut self,
+        text: &[u8],
+        cores: &mut [K],
+        cells: &mut [u16],
+        store: &[u8],
+        j: usize,
+        known: &mut Option<Source>,
+    ) -> Result<Done, StepRefusal>
+        requires { Awaits store.now self.old (length cores.old) (length cells.old) j known.old }
+        ensures outcome { let states = map K.Core.state cores.old in
+            let told = map K.Core.state cores.new in
+            let said = step_numbers result in
+            record { says = said; replayer = self.new; cells = cells.new; states = told }
+            ≡ stepped K.Core.next K.Core.after text.now self.old cells.old states store.now j }
+        ensures surplus { SurplusKept self.old.sizes cores.old cores.new cells.old cells.new }
+        ensures waits { Awaits store.now self.new (length cores.old) (length cells.old) j known.new }
+    {
+        if let Some(source) = *known {
+            if number_of(&self.done, source.core) < source.count {
+                return Err(StepRefusal::Waits(source));
+            }
+        }
+        let step = self.step(text, cores, cells, store, j);
+        *known = match step {
+            Err(StepRefusal::Waits(source)) => Some(source),
+            _ => None,
+        };
+        step
+    }
+
     // How many recorded instructions are left.
     fn left(&self) -> u32
         ensures { result ≡ left self.now }
@@ -177,20 +211,24 @@ impl Replayer {
             .sum()
     }
 
-    // One step of each core in order; how many were carried out.
+    // One step of each core in order, but where it is known to wait; how many were carried out.
     fn circle<K: Core>(
         &mut self,
         text: &[u8],
         cores: &mut [K],
         cells: &mut [u16],
         store: &[u8],
+        known: &mut [Option<Source>; 4],
     ) -> u32
+        requires { AllAwait store.now self.old (length cores.old) (length cells.old) known.old }
         ensures circled { session result self.new cells.new (map K.Core.state cores.new) ≡ circled K.Core.next K.Core.after text.now store.now self.old.sizes.cores 0 (session 0 self.old cells.old (map K.Core.state cores.old)) }
         ensures surplus { SurplusKept self.old.sizes cores.old cores.new cells.old cells.new }
+        ensures wait { AllAwait store.now self.new (length cores.old) (length cells.old) known.new }
     {
         let mut carried = 0;
         for j in 0..self.sizes.get().cores {
-            if self.step(text, cores, cells, store, j).is_ok() {
+            let step = self.step_or_wait(text, cores, cells, store, j, &mut known[j]);
+            if step.is_ok() {
                 carried += 1;
             }
         }
@@ -214,8 +252,10 @@ impl Replayer {
         }
         let total = self.left();
         let mut steps = 0;
+        // what each core is known to wait for: only steps of this run change what is done
+        let mut known = [None; 4];
         while steps < total {
-            let moved = self.circle(text, cores, cells, store);
+            let moved = self.circle(text, cores, cells, store, &mut known);
             if moved == 0 {
                 return Ok(Ended::Stopped(steps));
             }

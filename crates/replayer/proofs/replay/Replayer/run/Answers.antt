@@ -4,6 +4,7 @@ use Rattle.std.proofs.lemmas.List.{length-map}
 use Rattle.replayer.specs.Runs.{session}
 use Rattle.records.specs.Settings.{SurplusKept}
 use Rattle.replayer.proofs.Runs.{run_unsettled, running_start, running_over, running_stop, running_more, Moves, around_moves}
+use Rattle.replayer.proofs.Waiting.{none_known}
 use Rattle.replayer.proofs.replay.Replayer.run.Goals as goal
 
 pub returns-then-not-held_by-clause-outcome : goal.returns-then-not-held_by-clause-outcome
@@ -16,7 +17,11 @@ loop-steps-init g c =
     let four : length a.self.now.done ≡ 4 = search rules in (
       running_start _ _ _ _ a.self.now a.cells.now (map g.K.Core.state a.cores.now) (simp length-map c.if-not-held_by.ensures) four,
       (refl, refl),
+      none_known a.store.now a.self.now (length a.cores.now) (length a.cells.now),
     )
+
+pub circle-moved-requires : goal.circle-moved-requires
+circle-moved-requires g c = let l = c.loop-steps in rw (l.auto.cores, l.auto.cells) l.invariant.2
 
 pub overflow_add-steps : goal.overflow_add-steps
 overflow_add-steps g c =
@@ -46,6 +51,7 @@ loop-steps-preserved g c =
           (omega (arith, l.invariant.0.moves.fewer, c.left-total.ensures, c.loop-steps-test.true))
           (session c.circle-moved.result q.self q.cells (map g.K.Core.state q.cores)) c.circle-moved.ensures.circled c.if-moved-eq0.false,
       (kept.0 ∙ l.invariant.1.0, kept.1 ∙ l.invariant.1.1),
+      rw (l.auto.cores, l.auto.cells) at c.circle-moved.ensures.wait,
     )
 
 pub loop-steps-smaller : goal.loop-steps-smaller
