@@ -17,7 +17,8 @@ fn copy_records(from: Reader, sizes: Sizes, core: usize, out: &mut [u8])
     requires fitting { fits (length out.old) sizes ≡ true }
     requires inside { core < sizes.cores }
     requires short { length (view from).log ≤ sizes.log_bytes }
-    ensures { out.new ≡ copied sizes core from.entry.cursor (reading_from (view from.entry)).entries out.old }
+    ensures { let entries = (reading_from (view from.entry)).entries in
+        out.new ≡ copied sizes core from.entry.cursor entries out.old }
 {
     let mut reader = from;
     let mut offset = reader.offset();

@@ -38,7 +38,7 @@ pub struct Placement<'a> {
     pub record: Record,
     ghost fitting: { fits (length store.now) sizes ≡ true },
     ghost inside: { core < sizes.cores },
-    ghost room: { offset + length (bytes_of (entry «record»)) ≤ sizes.log_bytes },
+    ghost room: { behind offset (entry «record») ≤ sizes.log_bytes },
 }
 
 impl Placement<'_> {
