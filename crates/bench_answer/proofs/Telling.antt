@@ -3,7 +3,7 @@ use Rattle.std.proofs.Common.{◌≡◌, ℕ, ◌-◌, true, List, [], ◌∷◌
 use Rattle.std.proofs.lemmas.List.{take_all, drop_all, append-nil, length-map}
 use Rattle.logs.proofs.Arcs.{arcs_alone}
 use Rattle.logs.proofs.StoreArcs.{arcs_held}
-use Rattle.logs.specs.Arcs.{RunArc, all_arcs, arcs_by_core}
+use Rattle.logs.specs.Arcs.{RunArc, arcs_by_core}
 use Rattle.bench_listing.specs.Lines.{text_of}
 use Rattle.bench_listing.specs.Runs.{run_lines}
 use Rattle.cores.specs.Memory.{Rules, Memory, start, plain}
@@ -23,7 +23,7 @@ use Rattle.bench_input.specs.Described.{described}
 use Rattle.bench_input.specs.Session.{Session}
 use Rattle.bench_input.specs.declared.input.Reduction.{Reduction}
 use Rattle.bench_answer.specs.Answer.{reducer_for, lines_of, decided_lines, session_lines, bad_text, BadExactly}
-use Rattle.bench_answer.specs.Told.{Told}
+use Rattle.bench_answer.specs.Told.{Kept, Told}
 
 module _ (meets : Meets) (K : Rules) (z : Sizes) (turns : List ℕ) (before later : Buffers) (a : Answers) (w : Whole meets K z turns [] before later a)
     (many_cores : length before.states ≡ z.cores) (many_cells : length before.cells ≡ z.cells)
@@ -44,30 +44,37 @@ module _ (meets : Meets) (K : Rules) (z : Sizes) (turns : List ℕ) (before late
       let h = f (length r.accepted - carried_out a.steps) w.replayed.finishes in
       omega (arith, h, none)
 
-  pub tells : (steps : ℕ) → ((n : ℕ) → a.ended ≡ 0 ∷ n ∷ [] → steps ≡ n) → (text : List ℕ) → text ≡ text_of (run_lines (all_arcs later.store z) later.cells steps) → Told meets K z m turns text
-  tells steps ended text lines =
+  pub keeps : (steps : ℕ) → ((n : ℕ) → a.ended ≡ 0 ∷ n ∷ [] → steps ≡ n) → Kept meets K z m turns later.store later.cells steps
+  keeps steps ended =
       let p = plain K (first_memory z before) r.accepted in
-      let arcs =
-      arcs_held later.store z fit (λ k. body_of k r.arcs) (λ k. get_or p.counts k 0) (λ k h. (r.logs k h).0)
-      ∙ (λ i. arcs_by_core (λ k. arcs_alone (logs_of k r.arcs) i) z.cores) in
-      let cells = r.cells ∙ ap (λ l. p.cells ++ l) (drop_all z.cells before.cells (omega (arith, many_cells))) ∙ append-nil p.cells in
       record {
         says = reverse a.turns;
         accepted = r.accepted;
         numbers = a.numbers;
         arcs = r.arcs;
         recorded = subst (λ x. ByTheRules meets K z x (reverse turns) (reverse a.turns) r.accepted a.numbers r.arcs) first_is r.rules;
-        lines = lines ∙ (λ i. text_of (run_lines (arcs i) (cells i) (steps_are steps ended i)))
-            ∙ ap (λ (x : Memory). text_of (lines_of K z.cores x r.accepted r.arcs)) first_is;
+        logged = arcs_held later.store z fit (λ k. body_of k r.arcs) (λ k. get_or p.counts k 0) (λ k h. (r.logs k h).0)
+            ∙ (λ i. arcs_by_core (λ k. arcs_alone (logs_of k r.arcs) i) z.cores);
+        left = r.cells ∙ ap (λ l. p.cells ++ l) (drop_all z.cells before.cells (omega (arith, many_cells))) ∙ append-nil p.cells
+            ∙ ap (λ (x : Memory). (plain K x r.accepted).cells) first_is;
+        replayed = steps_are steps ended;
       }
+
+-- the same by other words for the start, the store and the cells
+pub kept_as : (meets : Meets) (K : Rules) (z : Sizes) (turns : List ℕ) (steps : ℕ) (m m' : Memory) (store store' cells cells' : List ℕ) → m ≡ m' → store ≡ store' → cells ≡ cells' →
+    Kept meets K z m turns store cells steps → Kept meets K z m' turns store' cells' steps
+kept_as meets K z turns steps m m' store store' cells cells' p q r k =
+    subst (λ x. Kept meets K z m' turns store' x steps) r
+    (subst (λ x. Kept meets K z m' turns x cells steps) q (subst (λ x. Kept meets K z x turns store cells steps) p k))
 
 -- a reducer with one choice tells one text
 told_decided : (meets : Meets) (F : Numbers → Numbers) → Decides meets F → (K : Rules) (z : Sizes) (m : Memory) (turns text : List ℕ) → Told meets K z m turns text →
     text ≡ text_of (decided_lines (by_choice F) K z m turns)
 told_decided meets F d K z m turns text t =
     let R = by_choice F in
-    let e = rules_decide meets F d K z m (reverse turns) t.says t.accepted t.numbers t.arcs t.recorded in
-    t.lines ∙ ap (λ L. text_of (lines_of K z.cores m t.accepted L)) e.1 ∙ ap (λ u. text_of (lines_of K z.cores m u (arcs_by R K m u))) e.0
+    let k = t.kept in
+    let e = rules_decide meets F d K z m (reverse turns) k.says k.accepted k.numbers k.arcs k.recorded in
+    t.lines ∙ (λ i. text_of (run_lines (k.logged i) (k.left i) (k.replayed i))) ∙ ap (λ L. text_of (lines_of K z.cores m k.accepted L)) e.1 ∙ ap (λ u. text_of (lines_of K z.cores m u (arcs_by R K m u))) e.0
 
 -- so does the reducer that an input names
 pub told_reduced : (meets : Meets) (asked is : Reduction) → asked ≡ is → (F : Numbers → Numbers) → Decides meets F → by_choice F ≡ reducer_for is → (K : Rules) (z : Sizes) (m : Memory) (turns text : List ℕ) → Told meets K z m turns text →

@@ -3,12 +3,12 @@ ghost use Rattle.bench_input.specs.Described.{described};
 ghost use Rattle.bench_input.specs.Session.{session_of};
 ghost use Rattle.bench_listing.specs.Lines.{text_of};
 ghost use Rattle.cores.specs.Memory.{rules, start};
-ghost use Rattle.records.specs.Settings.{can_begin};
 ghost use Rattle.replayer.specs.Answers.{run_numbers};
 ghost use Rattle.bench_answer.specs.Answer.{sizes_for, reducer_for, decided_lines, session_lines, answer_lines, BadExactly};
-ghost use Rattle.bench_answer.specs.Told.{Told};
+ghost use Rattle.sessions.specs.Space.{suffices};
+ghost use Rattle.bench_answer.specs.Told.{Kept, Told};
 
-use crate::buffers::cores_at;
+use crate::buffers::Space;
 use bench_input::errors::InputError;
 use bench_input::input::{Input, Kind, Reduction};
 use bench_input::reading::read_input;
@@ -23,12 +23,8 @@ use reducers::interface::Reducer;
 use reducers::keep_all::KeepAll;
 use reducers::pairwise::Pairwise;
 use replayer::answers::Ended;
-use sessions::buffers::SessionBuffers;
 use sessions::session::record_and_replay;
 use std::alloc::{AllocError, Global};
-
-// The bytes of each core's log.
-const LOG_BYTES: usize = 4096;
 
 // The steps of a run that finished.
 fn finished_steps(ended: Result<Ended, Refusal>) -> u32
@@ -41,30 +37,43 @@ fn finished_steps(ended: Result<Ended, Refusal>) -> u32
     }
 }
 
-// Records the turns, replays what was recorded, and lists the run.
-fn list_session<K: Core, R: Reducer + Drop>(
-    heap: Global,
-    reducer: R,
+// What a session leaves: its sizes, its cells, its logs, and how many steps their replay took.
+#[derive(Drop)]
+struct Run {
     sizes: Sizes,
+    cells: Vec<u16>,
+    store: Vec<u8>,
+    steps: u32,
+}
+
+// Records the turns, and replays what was recorded. Takes no memory.
+fn record<K: Core, R: Reducer + Drop>(
+    space: Space<K>,
+    reducer: R,
     text: &[u8],
-    cores: &mut [K],
-    cells: &mut [u16],
-    store: &mut [u8],
     turns: &[usize],
-) -> Result<String, AllocError>
-    requires fitting { can_begin sizes (length cores.old) (length cells.old) (length store.old) ≡ true }
-    requires lengths { (length cores.old ≡ sizes.cores) × (length cells.old ≡ sizes.cells) }
-    ensures { IfOk result (λ s. Told R.Reducer.meets (rules K.Core.next K.Core.after text.now) sizes (start cells.old (map K.Core.state cores.old)) turns.now (string_bytes s)) }
+) -> Run
+    requires { suffices space.replay space.sizes (length turns.now) 0 ≡ true }
+    ensures sizes { result.sizes ≡ space.sizes }
+    ensures kept { Kept R.Reducer.meets (rules K.Core.next K.Core.after text.now) space.sizes
+        (start space.cells.items (map K.Core.state space.cores.items)) turns.now
+        result.store.items result.cells.items result.steps }
 {
-    let space = SessionBuffers::reserve(heap, sizes, turns.len(), 0)?;
+    let Space {
+        sizes,
+        mut cores,
+        mut cells,
+        mut store,
+        replay,
+    } = space;
     let session = match record_and_replay(
-        space,
+        replay,
         reducer,
         sizes,
         text,
-        cores,
-        cells,
-        store,
+        cores.as_mut_slice(),
+        cells.as_mut_slice(),
+        store.as_mut_slice(),
         turns,
         &[],
     ) {
@@ -72,7 +81,12 @@ fn list_session<K: Core, R: Reducer + Drop>(
         // the sizes fit, and the space suffices
         Err(_) => unreachable(),
     };
-    list_run(heap, store, sizes, cells, finished_steps(session.ended))
+    Run {
+        sizes,
+        cells,
+        store,
+        steps: finished_steps(session.ended),
+    }
 }
 
 // The run that an input describes, with this kind of core and this reducer: cells at 0 and logs of 4,096 bytes.
@@ -83,23 +97,19 @@ fn run_session<K: StartingCore, R: Reducer + Drop>(
 ) -> Result<String, AllocError>
     ensures { IfOk result (λ s. Told R.Reducer.meets (rules K.Core.next K.Core.after input.now.text.items) (sizes_for input.now.cores input.now.cells) (start (replicate input.now.cells 0) (map K.StartingCore.first input.now.starts.items)) input.now.turns.items (string_bytes s)) }
 {
-    let sizes = Sizes {
-        cores: input.cores,
-        cells: input.cells,
-        log_bytes: LOG_BYTES,
-    };
-    let mut cores = cores_at::<K>(heap, input.starts.as_slice())?;
-    let mut cells = vec![in heap; 0u16; sizes.cells]?;
-    let mut store = vec![in heap; 0u8; sizes.cores * LOG_BYTES]?;
-    list_session(
-        heap,
+    let space = Space::<K>::reserve(heap, input)?;
+    let run = record(
+        space,
         reducer,
-        sizes,
         input.text.as_slice(),
-        cores.as_mut_slice(),
-        cells.as_mut_slice(),
-        store.as_mut_slice(),
         input.turns.as_slice(),
+    );
+    list_run(
+        heap,
+        run.store.as_slice(),
+        run.sizes,
+        run.cells.as_slice(),
+        run.steps,
     )
 }
 
