@@ -1,4 +1,5 @@
-//! Asks callgrind, where the program runs under it, to count from here on and to write down what it has counted.
+//! Asks callgrind, where the program runs under it, to count from here on and to write down what it
+//! has counted.
 
 use std::arch::asm;
 
@@ -7,7 +8,8 @@ const CALLGRIND: u64 = (b'C' as u64) << 24 | (b'T' as u64) << 16;
 const DUMP: u64 = CALLGRIND;
 const ZERO: u64 = CALLGRIND + 1;
 
-/// Valgrind knows a request by these instructions, which do nothing: the register has its bits again after 128 rotations.
+/// Valgrind knows a request by these instructions, which do nothing: the register has its bits
+/// again after 128 rotations.
 fn request(request: u64) {
     let words = [request, 0, 0, 0, 0, 0];
     // SAFETY: the instructions change no register; valgrind reads `words` and answers in rdx.

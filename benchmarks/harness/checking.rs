@@ -101,16 +101,25 @@ fn compare_workload(
     let session = &workload.session(reduction);
     comparison.same(title, |side| workload.record_on(side, session, turns));
     let recorded = workload.record_on(Side::Peer, session, turns);
-    let steps: Vec<u8> = (0..5000).map(|_| random.below(workload.cores + 1) as u8).collect();
+    let steps: Vec<u8> = (0..5000)
+        .map(|_| random.below(workload.cores + 1) as u8)
+        .collect();
     let replay = |side| workload.replay_on(side, session, &recorded.store, &steps);
     comparison.same(|| format!("{}, replayed", title()), replay);
-    let cells = workload.replay_on(Side::Product, session, &recorded.store, &steps).cells;
-    comparison.hold(|| format!("{}, cells replayed", title()), cells == recorded.cells);
+    let cells = workload
+        .replay_on(Side::Product, session, &recorded.store, &steps)
+        .cells;
+    comparison.hold(
+        || format!("{}, cells replayed", title()),
+        cells == recorded.cells,
+    );
     for n in 0..damages {
         let store = damaged(&recorded.store, random);
         let what = || format!("{}, damaged store {n}", title());
         comparison.same(what, |side| side.open(session, &recorded.cells, &store));
-        comparison.same(what, |side| workload.replay_on(side, session, &store, &steps));
+        comparison.same(what, |side| {
+            workload.replay_on(side, session, &store, &steps)
+        });
     }
 }
 
@@ -125,7 +134,12 @@ fn compare_settings(comparison: &mut Comparison, workload: &Workload, store: &[u
         for cells in bounds[1] {
             for log_bytes in bounds[2] {
                 let session = workload.session(Reduction::Exact);
-                let session = &Session { cores, cells, log_bytes, ..session };
+                let session = &Session {
+                    cores,
+                    cells,
+                    log_bytes,
+                    ..session
+                };
                 let what = || format!("{cores} cores, {cells} cells, logs of {log_bytes} bytes");
                 for (cell_count, bytes) in [(256, 65536), (255, 65536), (256, 65535), (0, 0)] {
                     comparison.same(what, |side| {
@@ -142,8 +156,8 @@ fn compare_settings(comparison: &mut Comparison, workload: &Workload, store: &[u
     }
 }
 
-/// Compares all of an extent: each workload with each reducer, all turns accepted and with refused ones among them; each
-/// scenario that is measured; and settings.
+/// Compares all of an extent: each workload with each reducer, all turns accepted and with refused
+/// ones among them; each scenario that is measured; and settings.
 pub fn compare(extent: &Extent, damages: usize) -> Comparison {
     let mut comparison = Comparison::default();
     let mut random = Random::new(99);

@@ -18,7 +18,10 @@ unsafe extern "C" {
 
 impl Moment {
     pub fn now() -> Moment {
-        let mut at = Timespec { seconds: 0, nanoseconds: 0 };
+        let mut at = Timespec {
+            seconds: 0,
+            nanoseconds: 0,
+        };
         // SAFETY: `at` is what the C function writes, as POSIX on Linux lays it out.
         let status = unsafe { clock_gettime(THREAD_PROCESSOR_TIME, &mut at) };
         assert_eq!(status, 0, "the thread's clock");

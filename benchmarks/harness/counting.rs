@@ -1,5 +1,5 @@
-//! Instructions by callgrind. Under it, `list` does each work once and prints what it did, and callgrind writes a dump for each.
-//! `read` puts the two together.
+//! Instructions by callgrind. Under it, `list` does each work once and prints what it did, and
+//! callgrind writes a dump for each. `read` puts the two together.
 
 use crate::callgrind;
 use crate::scenarios::{Call, Extent, Part};
@@ -11,14 +11,23 @@ use std::{fs, io};
 
 /// Does the work of each scenario on both sides, and prints a line for each.
 pub fn list() {
-    let extent = Extent { turns: 16_000, refused: 2_000, ..Extent::short() };
+    let extent = Extent {
+        turns: 16_000,
+        refused: 20_000,
+        ..Extent::short()
+    };
     extent.visit(&mut |mut scenario| {
         for part in Part::BOTH {
             for side in Side::BOTH {
                 black_box(callgrind::counted(|| scenario.perform(side, part)));
             }
         }
-        println!("{}\t{}\t{}", scenario.call.name(), scenario.units, scenario.title);
+        println!(
+            "{}\t{}\t{}",
+            scenario.call.name(),
+            scenario.units,
+            scenario.title
+        );
     });
 }
 
@@ -57,11 +66,15 @@ pub fn read(list: &str, prefix: &str) -> io::Result<Vec<Row>> {
         let whole = dumps.next_pair()?;
         let units: f64 = units.parse().map_err(io::Error::other)?;
         let [product, peer] = [0, 1].map(|side| (whole[side] - before[side]) / units);
-        eprintln!("{call} | {title} | {product:.1} | {peer:.1} | {:.2}", product / peer);
+        eprintln!(
+            "{call} | {title} | {product:.1} | {peer:.1} | {:.2}",
+            product / peer
+        );
         counted.push((call.to_string(), product, product / peer));
     }
     Ok(rows_by_call(|call: Call| {
         let mine = counted.iter().filter(|(name, ..)| name == call.name());
-        mine.map(|&(_, product, ratio)| Case { ratio, product }).collect()
+        mine.map(|&(_, product, ratio)| Case { ratio, product })
+            .collect()
     }))
 }

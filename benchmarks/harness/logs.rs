@@ -15,8 +15,14 @@ pub fn end_of(log: &[u8]) -> End {
     const HEAD: usize = 6;
     const ARC: usize = 7;
     const END: usize = 6;
-    let arcs = log[HEAD..].chunks(ARC).take_while(|record| record.starts_with(b"AR")).count();
-    End { bytes: HEAD + ARC * arcs + END, arcs }
+    let arcs = log[HEAD..]
+        .chunks(ARC)
+        .take_while(|record| record.starts_with(b"AR"))
+        .count();
+    End {
+        bytes: HEAD + ARC * arcs + END,
+        arcs,
+    }
 }
 
 /// The ends of all logs of a store, together.
@@ -52,12 +58,23 @@ fn logged(workload: &Workload) -> Logged {
         Schedule::CoreByCore => "core by core",
     };
     let title = format!("{}, {} cores, {order}", workload.name, workload.cores);
-    Logged { title, instructions: turns.len(), ends }
+    Logged {
+        title,
+        instructions: turns.len(),
+        ends,
+    }
 }
 
 /// One workload of each kind, in its own order of turns and then in bursts.
 pub fn all_logged() -> Vec<Logged> {
     let own = workloads::one_of_each();
-    let bursts = own.iter().map(|w| Workload { schedule: Schedule::Bursts, ..w.clone() });
-    own.iter().cloned().chain(bursts).map(|w| logged(&w)).collect()
+    let bursts = own.iter().map(|w| Workload {
+        schedule: Schedule::Bursts,
+        ..w.clone()
+    });
+    own.iter()
+        .cloned()
+        .chain(bursts)
+        .map(|w| logged(&w))
+        .collect()
 }

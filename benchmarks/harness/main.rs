@@ -1,13 +1,14 @@
-//! Measures the product, linked as a static library, beside the plain Rust peer, both in this process.
+//! Measures the product, linked as a static library, beside the plain Rust peer, both in this
+//! process.
 //!
-//! `compare EXTENT` compares all results, `table EXTENT` measures, where EXTENT is `short` or `long`. `list` and `counted LIST
-//! PREFIX` count instructions under callgrind.
+//! `compare EXTENT` compares all results, `table EXTENT` measures, where EXTENT is `short` or
+//! `long`. `list` and `counted LIST PREFIX` count instructions under callgrind.
 
+mod alone;
 mod callgrind;
 mod checking;
 mod clock;
 mod counting;
-mod flatness;
 mod logs;
 mod plain;
 mod product;
@@ -19,7 +20,7 @@ mod table;
 mod timing;
 mod workloads;
 
-use flatness::Flatness;
+use alone::Comparison;
 use scenarios::{Call, Extent};
 use std::process::ExitCode;
 use table::Case;
@@ -37,12 +38,18 @@ impl Plan {
         match name {
             "short" => Some(Plan {
                 extent: Extent::short(),
-                effort: Effort { pairs: 9, sample: 0.5e6 },
+                effort: Effort {
+                    pairs: 9,
+                    sample: 0.5e6,
+                },
                 damages: 10,
             }),
             "long" => Some(Plan {
                 extent: Extent::long(),
-                effort: Effort { pairs: 15, sample: 2e6 },
+                effort: Effort {
+                    pairs: 15,
+                    sample: 2e6,
+                },
                 damages: 20,
             }),
             _ => None,
@@ -52,8 +59,15 @@ impl Plan {
 
 fn compare(plan: &Plan) -> ExitCode {
     let comparison = checking::compare(&plan.extent, plan.damages);
-    println!("{} results compared, {} differ", comparison.compared, comparison.different);
-    if comparison.different == 0 { ExitCode::SUCCESS } else { ExitCode::FAILURE }
+    println!(
+        "{} results compared, {} differ",
+        comparison.compared, comparison.different
+    );
+    if comparison.different == 0 {
+        ExitCode::SUCCESS
+    } else {
+        ExitCode::FAILURE
+    }
 }
 
 /// Measures each scenario, and says on standard error what came out.
@@ -61,35 +75,43 @@ fn measured(plan: &Plan) -> Vec<(Call, Measured)> {
     let mut all = vec![];
     plan.extent.visit(&mut |mut scenario| {
         let measured = scenario.measure(plan.effort);
-        let Measured { product, peer, ratio } = measured;
+        let Measured {
+            product,
+            peer,
+            ratio,
+        } = measured;
         let call = scenario.call.name();
-        eprintln!("{call} | {} | {product:.2} ns | {peer:.2} ns | {ratio:.2}", scenario.title);
+        eprintln!(
+            "{call} | {} | {product:.2} ns | {peer:.2} ns | {ratio:.2}",
+            scenario.title
+        );
         all.push((scenario.call, measured));
     });
     all
 }
 
-fn print_flatness(effort: Effort) {
-    let [turns, steps] = flatness::all(effort);
-    let of = |all: &[Flatness]| {
-        for Flatness { title, ratio } in all {
-            eprintln!("flat | {title} | {ratio:.2}");
+fn print_alone(effort: Effort) {
+    for Comparison { name, ratios } in alone::all(effort) {
+        for (title, ratio) in &ratios {
+            eprintln!("{name} | {title} | {ratio:.2}");
         }
-        all.iter().map(|one| one.ratio).collect::<Vec<f64>>()
-    };
-    let behind = "behind 100,000 others, beside one of the first 100,000";
-    table::print_flatness(&format!("turn of the product {behind}"), &of(&turns));
-    table::print_flatness(&format!("step of the product {behind}"), &of(&steps));
+        let ratios: Vec<f64> = ratios.iter().map(|(_, ratio)| *ratio).collect();
+        table::print_alone(name, &ratios);
+    }
 }
 
 fn print_table(plan: &Plan) {
     let all = measured(plan);
     let rows = table::rows_by_call(|call| {
         let mine = all.iter().filter(|(of, _)| *of == call);
-        mine.map(|(_, m)| Case { ratio: m.ratio, product: m.product }).collect()
+        mine.map(|(_, m)| Case {
+            ratio: m.ratio,
+            product: m.product,
+        })
+        .collect()
     });
     table::print_ratios(&rows, "ns");
-    print_flatness(plan.effort);
+    print_alone(plan.effort);
     table::print_logs(&logs::all_logged());
 }
 

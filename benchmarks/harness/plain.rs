@@ -10,13 +10,19 @@ use peer::sizes::Sizes;
 
 impl Session {
     pub fn sizes(&self) -> Sizes {
-        Sizes { cores: self.cores, cells: self.cells, log_bytes: self.log_bytes }
+        Sizes {
+            cores: self.cores,
+            cells: self.cells,
+            log_bytes: self.log_bytes,
+        }
     }
 }
 
 /// Numbers as digits of 16 bits, the last ones of a long list.
 fn packed<const N: usize>(digits: [u64; N]) -> u64 {
-    digits.into_iter().fold(0, |sum, digit| sum.wrapping_mul(65536).wrapping_add(digit))
+    digits
+        .into_iter()
+        .fold(0, |sum, digit| sum.wrapping_mul(65536).wrapping_add(digit))
 }
 
 fn mix(sum: u64, number: u64) -> u64 {
@@ -29,15 +35,23 @@ fn begin_number(answer: Result<(), Refusal>) -> u64 {
 
 fn turn_number(answer: Result<Recorded, Refusal>) -> u64 {
     match answer {
-        Ok(Recorded { count, number, arcs, .. }) => {
-            packed([count.into(), number.into(), arcs.into()])
-        }
+        Ok(Recorded {
+            count,
+            number,
+            arcs,
+            ..
+        }) => packed([count.into(), number.into(), arcs.into()]),
         Err(refusal) => refusal as u64,
     }
 }
 
 fn fault_number(fault: Fault) -> u64 {
-    let Fault { layer, core, offset, cause } = fault;
+    let Fault {
+        layer,
+        core,
+        offset,
+        cause,
+    } = fault;
     packed([9, layer.into(), core.into(), offset as u64, cause.into()])
 }
 
@@ -159,5 +173,26 @@ pub fn replay(
     match session.kind {
         Kind::Script => replay_kind::<Script>(session, text, cells, store, steps, runs),
         Kind::Register => replay_kind::<Register>(session, text, cells, store, steps, runs),
+    }
+}
+
+fn execute_kind<K: Core>(session: &Session, text: &[u8], cells: &mut [u16], turns: &[u8]) -> u64 {
+    let cores = &mut session.places.map(K::new);
+    let mut sum = 0;
+    for &turn in turns {
+        let core = &mut cores[usize::from(turn)];
+        let number = core.ask(text).act(cells);
+        core.tell(text, number);
+        sum = mix(sum, number.into());
+    }
+    sum
+}
+
+/// The instructions of these turns with no recorder: the checksum of the numbers that they bring.
+#[inline(never)]
+pub fn execute(session: &Session, text: &[u8], cells: &mut [u16], turns: &[u8]) -> u64 {
+    match session.kind {
+        Kind::Script => execute_kind::<Script>(session, text, cells, turns),
+        Kind::Register => execute_kind::<Register>(session, text, cells, turns),
     }
 }

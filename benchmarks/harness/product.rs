@@ -1,4 +1,5 @@
-//! The product's exports, as the static library of the crate `exports` has them. A slice goes as a pointer and a length.
+//! The product's exports, as the static library of the crate `exports` has them. A slice goes as a
+//! pointer and a length.
 
 use crate::sides::Session;
 
@@ -44,7 +45,8 @@ pub fn record(
     store: &mut [u8],
     turns: &[u8],
 ) -> u64 {
-    // SAFETY: the pointers and lengths are those of slices, and nothing of them is kept. The export requires nothing more.
+    // SAFETY: the pointers and lengths are those of slices, and nothing of them is kept. The export
+    // requires nothing more.
     unsafe {
         exports_record(
             session,
@@ -62,7 +64,15 @@ pub fn record(
 
 pub fn open(session: &Session, cells: &[u16], store: &[u8]) -> u64 {
     // SAFETY: as above.
-    unsafe { exports_open(session, cells.as_ptr(), cells.len(), store.as_ptr(), store.len()) }
+    unsafe {
+        exports_open(
+            session,
+            cells.as_ptr(),
+            cells.len(),
+            store.as_ptr(),
+            store.len(),
+        )
+    }
 }
 
 pub fn replay(

@@ -1,7 +1,7 @@
 //! Programs of register cores.
 
-use crate::workloads::{Schedule, Workload};
 use crate::sides::Kind;
+use crate::workloads::{Schedule, Workload};
 
 /// An item: an operation, a register, and two bytes.
 type Item = [u8; 4];
@@ -17,9 +17,10 @@ fn jump(register: u8, to: usize) -> Item {
 /// The items of a part that stands behind so many others.
 fn placed(part: &[Item], base: usize) -> impl Iterator<Item = Item> {
     part.iter().map(move |&item| match item {
-        [JUMP, register, high, low] => {
-            jump(register, base + usize::from(u16::from_be_bytes([high, low])))
-        }
+        [JUMP, register, high, low] => jump(
+            register,
+            base + usize::from(u16::from_be_bytes([high, low])),
+        ),
         _ => item,
     })
 }
@@ -71,7 +72,7 @@ pub fn private(cores: usize) -> Workload {
         let base = 32 + 16 * core;
         vec![
             [4, 1, 0, 1],
-            [4, 2, 0, 0], // 1: from its first cell on
+            [4, 2, 0, 0],    // 1: from its first cell on
             [1, 3, 2, base], // 2: one cell
             [5, 3, 3, 1],
             [2, 3, 2, base],

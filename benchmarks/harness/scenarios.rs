@@ -80,7 +80,15 @@ pub struct Scenario {
 impl Scenario {
     /// Does a part of the work; gives the checksum.
     pub fn perform(&mut self, side: Side, part: Part) -> u64 {
-        let Scenario { session, text, cells, store, before, whole, .. } = self;
+        let Scenario {
+            session,
+            text,
+            cells,
+            store,
+            before,
+            whole,
+            ..
+        } = self;
         let work = match (part, before) {
             (Part::Whole, _) => whole,
             (Part::Before, Some(before)) => before,
@@ -90,9 +98,7 @@ impl Scenario {
         match work {
             Work::Record { turns } => side.record(session, text, cells, store, turns),
             Work::Open => side.open(session, cells, store),
-            Work::Replay { steps, runs } => {
-                side.replay(session, text, cells, store, steps, *runs)
-            }
+            Work::Replay { steps, runs } => side.replay(session, text, cells, store, steps, *runs),
         }
     }
 }
@@ -102,17 +108,25 @@ pub struct Extent {
     pub workloads: Vec<Workload>,
     /// The most turns of a recording.
     pub turns: usize,
-    /// How many turns are refused, and steps refused or waiting, in a row.
+    /// How many turns or steps are refused in a row. A tenth as many wait.
     pub refused: usize,
 }
 
 impl Extent {
     pub fn short() -> Self {
-        Extent { workloads: workloads::some(), turns: 20_000, refused: 10_000 }
+        Extent {
+            workloads: workloads::some(),
+            turns: 20_000,
+            refused: 100_000,
+        }
     }
 
     pub fn long() -> Self {
-        Extent { workloads: workloads::all(), turns: usize::MAX, refused: 50_000 }
+        Extent {
+            workloads: workloads::all(),
+            turns: usize::MAX,
+            refused: 200_000,
+        }
     }
 
     /// Hands each scenario to `each`, one at a time.
@@ -125,7 +139,11 @@ impl Extent {
         self.visit_waiting(each);
         self.visit_refused_turns(each);
         self.visit_refused_steps(each);
-        for workload in [workloads::random(2, 1), workloads::random(4, 1), workloads::random(4, 256)] {
+        for workload in [
+            workloads::random(2, 1),
+            workloads::random(4, 1),
+            workloads::random(4, 256),
+        ] {
             for reduction in Reduction::ALL {
                 let turns = workload.recorded(reduction, 1).turns;
                 let scenario = Case::new(Call::FirstTurn, &workload, reduction);
@@ -134,7 +152,8 @@ impl Extent {
         }
     }
 
-    /// The turns of a workload; and of what was recorded the opening, the steps in the recording's order, and a run.
+    /// The turns of a workload; and of what was recorded the opening, the steps in the recording's
+    /// order, and a run.
     fn visit_workload(
         &self,
         workload: &Workload,
@@ -146,33 +165,53 @@ impl Extent {
         let bytes = ends_of(&recording.store).bytes;
         let case = |call| Case::new(call, workload, reduction).over(&recording.store);
         let turns = recording.turns.clone();
-        each(case(Call::Turn).after(record(&[])).whole(Work::Record { turns }, count));
+        each(
+            case(Call::Turn)
+                .after(record(&[]))
+                .whole(Work::Record { turns }, count),
+        );
         if reduction == Reduction::Pairwise {
             return;
         }
         each(case(Call::OpenedByte).whole(Work::Open, bytes));
         let steps = recording.turns.clone();
-        each(case(Call::Step).after(Work::Open).whole(Work::Replay { steps, runs: false }, count));
-        let run = Work::Replay { steps: vec![], runs: true };
+        each(
+            case(Call::Step)
+                .after(Work::Open)
+                .whole(Work::Replay { steps, runs: false }, count),
+        );
+        let run = Work::Replay {
+            steps: vec![],
+            runs: true,
+        };
         each(case(Call::RunStep).after(Work::Open).whole(run, count));
     }
 
     fn visit_waiting(&self, each: &mut impl FnMut(Scenario)) {
-        let n = self.refused;
+        let n = self.refused / 10;
         for cores in 2..=4 {
             let workload = workloads::long_wait(cores);
             let recording = workload.recorded(Reduction::Exact, usize::MAX);
             let case = Case::new(Call::WaitingStep, &workload, Reduction::Exact);
-            each(case.over(&recording.store).after(steps(&[])).whole(steps(&vec![1; n]), n));
+            each(
+                case.over(&recording.store)
+                    .after(steps(&[]))
+                    .whole(steps(&vec![1; n]), n),
+            );
         }
         let workload = workloads::ping_pong(4, 4);
         let recording = workload.recorded(Reduction::KeepAll, usize::MAX);
         for core in 0..4u8 {
             let case = Case::new(Call::WaitingStep, &workload, Reduction::KeepAll);
-            let case = case.over(&recording.store).named(&format!("only core {core} is stepped"));
+            let case = case
+                .over(&recording.store)
+                .named(&format!("only core {core} is stepped"));
             // soon it waits for the others
             let first = vec![core; 1000];
-            each(case.after(steps(&first)).whole(steps(&[first, vec![core; n]].concat()), n));
+            each(
+                case.after(steps(&first))
+                    .whole(steps(&[first, vec![core; n]].concat()), n),
+            );
         }
     }
 
@@ -184,13 +223,12 @@ impl Extent {
             let filled = full.recorded(reduction, usize::MAX).turns;
             // the core behind the last one found its log full
             let full_core = (filled[filled.len() - 1] + 1) % 4;
-            let cases: [(&str, &Workload, Vec<u8>, u8); 6] = [
+            let cases: [(&str, &Workload, Vec<u8>, u8); 5] = [
                 ("no such core", &full, vec![], 9),
                 ("halted", &full.with_text(&[]), vec![], 0),
                 ("count spent", &spent, vec![0; 65535], 0),
                 ("no such cell", &full.with_text(&no_such_cell()), vec![], 0),
                 ("log full", &full, filled, full_core),
-                ("bad setting", &Workload { cores: 5, ..full.clone() }, vec![], 0),
             ];
             for (name, workload, first, core) in cases {
                 let case = Case::new(Call::RefusedTurn, workload, reduction).named(name);
@@ -204,17 +242,30 @@ impl Extent {
         let n = self.refused;
         let workload = workloads::ping_pong(4, 4);
         let recording = workload.recorded(Reduction::KeepAll, usize::MAX);
-        let cases: [(&str, &Workload, Vec<u8>, u8); 5] = [
+        let cases: [(&str, &Workload, Vec<u8>, u8); 4] = [
             ("no such core", &workload, vec![], 9),
             ("replayed", &workload, recording.turns.clone(), 0),
-            ("halted", &workload.with_text(&[]), vec![], recording.turns[0]),
-            ("no such cell", &workload.with_text(&no_such_cell()), vec![], recording.turns[0]),
-            ("bad setting", &Workload { cores: 5, ..workload.clone() }, vec![], 0),
+            (
+                "halted",
+                &workload.with_text(&[]),
+                vec![],
+                recording.turns[0],
+            ),
+            (
+                "no such cell",
+                &workload.with_text(&no_such_cell()),
+                vec![],
+                recording.turns[0],
+            ),
         ];
         for (name, changed, first, core) in cases {
             let case = Case::new(Call::RefusedStep, changed, Reduction::KeepAll).named(name);
             let all = [&first[..], &vec![core; n]].concat();
-            each(case.over(&recording.store).after(steps(&first)).whole(steps(&all), n));
+            each(
+                case.over(&recording.store)
+                    .after(steps(&first))
+                    .whole(steps(&all), n),
+            );
         }
     }
 }
@@ -225,11 +276,16 @@ fn no_such_cell() -> Vec<u8> {
 }
 
 fn record(turns: &[u8]) -> Work {
-    Work::Record { turns: turns.to_vec() }
+    Work::Record {
+        turns: turns.to_vec(),
+    }
 }
 
 fn steps(steps: &[u8]) -> Work {
-    Work::Replay { steps: steps.to_vec(), runs: false }
+    Work::Replay {
+        steps: steps.to_vec(),
+        runs: false,
+    }
 }
 
 /// A scenario that is being put together.
@@ -246,7 +302,14 @@ impl<'a> Case<'a> {
     fn new(call: Call, workload: &'a Workload, reduction: Reduction) -> Self {
         let title = format!("{}, {}", workload.title(), reduction.name());
         let store = workload.new_store();
-        Case { call, title, workload, reduction, store, before: None }
+        Case {
+            call,
+            title,
+            workload,
+            reduction,
+            store,
+            before: None,
+        }
     }
 
     fn named(mut self, name: &str) -> Self {

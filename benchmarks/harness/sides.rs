@@ -53,13 +53,6 @@ pub enum Side {
 impl Side {
     pub const BOTH: [Side; 2] = [Side::Product, Side::Peer];
 
-    pub fn other(self) -> Side {
-        match self {
-            Side::Product => Side::Peer,
-            Side::Peer => Side::Product,
-        }
-    }
-
     /// A new recorder begins and takes turns of these cores: the checksum of the answers.
     pub fn record(
         self,
@@ -83,7 +76,8 @@ impl Side {
         }
     }
 
-    /// A new replayer opens the logs, takes steps of these cores, and runs to the end where `runs`: the checksum of the answers.
+    /// A new replayer opens the logs, takes steps of these cores, and runs to the end where `runs`:
+    /// the checksum of the answers.
     pub fn replay(
         self,
         session: &Session,

@@ -18,7 +18,10 @@ pub struct Row {
 
 /// The rows of all kinds of call, each from its cases.
 pub fn rows_by_call(mut cases: impl FnMut(Call) -> Vec<Case>) -> Vec<Row> {
-    let row = |call: Call| Row { name: call.name().into(), cases: cases(call) };
+    let row = |call: Call| Row {
+        name: call.name().into(),
+        cases: cases(call),
+    };
     Call::ALL.into_iter().map(row).collect()
 }
 
@@ -40,13 +43,23 @@ fn print_row(row: &Row, unit: &str) {
 fn print_logged(logged: &Logged) {
     let per_thousand = |number: usize| 1000.0 * number as f64 / logged.instructions as f64;
     let [keep_all, pairwise, exact] = &logged.ends;
-    let said = [keep_all, pairwise, exact]
-        .map(|end| format!("{:.1}, {:.0}", per_thousand(end.arcs), per_thousand(end.bytes)));
+    let said = [keep_all, pairwise, exact].map(|end| {
+        format!(
+            "{:.1}, {:.0}",
+            per_thousand(end.arcs),
+            per_thousand(end.bytes)
+        )
+    });
     let part = match keep_all.arcs {
         0 => "no arcs".into(),
         arcs => format!("{:.0} %", 100.0 * exact.arcs as f64 / arcs as f64),
     };
-    println!("| {} | {} | {} | {part} |", logged.title, logged.instructions, said.join(" | "));
+    println!(
+        "| {} | {} | {} | {part} |",
+        logged.title,
+        logged.instructions,
+        said.join(" | ")
+    );
 }
 
 pub fn print_ratios(rows: &[Row], unit: &str) {
@@ -58,11 +71,14 @@ pub fn print_ratios(rows: &[Row], unit: &str) {
 }
 
 /// More rows of the same table, of the product alone.
-pub fn print_flatness(name: &str, ratios: &[f64]) {
+pub fn print_alone(name: &str, ratios: &[f64]) {
     let least = ratios.iter().copied().fold(f64::INFINITY, f64::min);
     let most = ratios.iter().copied().fold(0.0, f64::max);
     let middle = median(ratios.to_vec());
-    println!("| {name} | {} | **{middle:.2}** | {least:.2} | {most:.2} | |", ratios.len());
+    println!(
+        "| {name} | {} | **{middle:.2}** | {least:.2} | {most:.2} | |",
+        ratios.len()
+    );
 }
 
 /// More rows of the same table.

@@ -27,18 +27,32 @@ pub fn median(mut numbers: Vec<f64>) -> f64 {
     (numbers[(n - 1) / 2] + numbers[n / 2]) / 2.0
 }
 
-/// Samples of the two, in turn, so that both see the same state of the machine: the medians, and that of the ratios of pairs.
-pub fn in_pairs(pairs: usize, mut sample: impl FnMut(Side) -> f64) -> Measured {
+/// The medians of samples of two things, and of the ratios of the first to the second.
+pub struct Paired {
+    pub first: f64,
+    pub second: f64,
+    pub ratio: f64,
+}
+
+/// Samples of the things 0 and 1, in turn, so that both see the same state of the machine.
+pub fn in_pairs(pairs: usize, mut sample: impl FnMut(usize) -> f64) -> Paired {
     let mut taken = [vec![], vec![]];
     for pair in 0..pairs {
-        let first = Side::BOTH[pair % 2];
-        for side in [first, first.other()] {
-            taken[side as usize].push(sample(side));
+        for thing in [pair % 2, 1 - pair % 2] {
+            taken[thing].push(sample(thing));
         }
     }
-    let [product, peer] = taken;
-    let ratios = product.iter().zip(&peer).map(|(product, peer)| product / peer).collect();
-    Measured { product: median(product), peer: median(peer), ratio: median(ratios) }
+    let [first, second] = taken;
+    let ratios = first
+        .iter()
+        .zip(&second)
+        .map(|(first, second)| first / second)
+        .collect();
+    Paired {
+        first: median(first),
+        second: median(second),
+        ratio: median(ratios),
+    }
 }
 
 impl Scenario {
@@ -67,10 +81,16 @@ impl Scenario {
     pub fn measure(&mut self, effort: Effort) -> Measured {
         let times = self.times(effort.sample);
         let calls = (times * self.units) as f64;
-        in_pairs(effort.pairs, |side| {
+        let paired = in_pairs(effort.pairs, |thing| {
+            let side = Side::BOTH[thing];
             let whole = self.time(side, Part::Whole, times);
             let before = self.time(side, Part::Before, times);
             (whole - before) / calls
-        })
+        });
+        Measured {
+            product: paired.first,
+            peer: paired.second,
+            ratio: paired.ratio,
+        }
     }
 }

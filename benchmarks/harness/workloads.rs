@@ -47,11 +47,36 @@ struct Mix {
     exchange: usize,
 }
 
-const LOCAL: Mix = Mix { local: 100, read: 0, write: 0, exchange: 0 };
-const READS: Mix = Mix { local: 0, read: 95, write: 5, exchange: 0 };
-const PING_PONG: Mix = Mix { local: 0, read: 0, write: 50, exchange: 50 };
-const RANDOM: Mix = Mix { local: 0, read: 50, write: 50, exchange: 0 };
-const TYPICAL: Mix = Mix { local: 70, read: 20, write: 8, exchange: 2 };
+const LOCAL: Mix = Mix {
+    local: 100,
+    read: 0,
+    write: 0,
+    exchange: 0,
+};
+const READS: Mix = Mix {
+    local: 0,
+    read: 95,
+    write: 5,
+    exchange: 0,
+};
+const PING_PONG: Mix = Mix {
+    local: 0,
+    read: 0,
+    write: 50,
+    exchange: 50,
+};
+const RANDOM: Mix = Mix {
+    local: 0,
+    read: 50,
+    write: 50,
+    exchange: 0,
+};
+const TYPICAL: Mix = Mix {
+    local: 70,
+    read: 20,
+    write: 8,
+    exchange: 2,
+};
 
 impl Mix {
     /// A random item over so many cells.
@@ -70,11 +95,13 @@ impl Mix {
     }
 }
 
-/// Script cores over a text of as many items as there can be; each starts a quarter of the text further on, but where all items
-/// are the same.
+/// Script cores over a text of as many items as there can be; each starts a quarter of the text
+/// further on, but where all items are the same.
 fn script(name: &'static str, cores: usize, cells: usize, touched: usize, mix: Mix) -> Workload {
     let mut random = Random::new(0x9E37_79B9_7F4A_7C15 ^ (cores * 1000 + touched) as u64);
-    let text = (0..ITEMS).flat_map(|_| mix.item(&mut random, touched)).collect();
+    let text = (0..ITEMS)
+        .flat_map(|_| mix.item(&mut random, touched))
+        .collect();
     let quarter = if mix.local == 100 { 0 } else { 16384 };
     Workload {
         name,
@@ -89,7 +116,10 @@ fn script(name: &'static str, cores: usize, cells: usize, touched: usize, mix: M
 
 pub fn local(cores: usize, cells: usize) -> Workload {
     let schedule = Schedule::RoundRobin;
-    Workload { schedule, ..script("local", cores, cells, cells, LOCAL) }
+    Workload {
+        schedule,
+        ..script("local", cores, cells, cells, LOCAL)
+    }
 }
 
 pub fn reads(cores: usize, cells: usize) -> Workload {
@@ -99,7 +129,10 @@ pub fn reads(cores: usize, cells: usize) -> Workload {
 /// Writes and exchanges on four cells at most, core after core.
 pub fn ping_pong(cores: usize, cells: usize) -> Workload {
     let schedule = Schedule::RoundRobin;
-    Workload { schedule, ..script("ping-pong", cores, cells, cells.min(4), PING_PONG) }
+    Workload {
+        schedule,
+        ..script("ping-pong", cores, cells, cells.min(4), PING_PONG)
+    }
 }
 
 pub fn random(cores: usize, cells: usize) -> Workload {
@@ -152,12 +185,17 @@ pub fn some() -> Vec<Workload> {
     one_of_each().into_iter().chain(more).collect()
 }
 
-/// All, for a long run: each mix and program with two to four cores, and the mixes with 1, 16 and 256 cells.
+/// All, for a long run: each mix and program with two to four cores, and the mixes with 1, 16 and
+/// 256 cells.
 pub fn all() -> Vec<Workload> {
     let mut all = vec![];
     for cores in 2..=4 {
         for cells in [1, 16, 256] {
-            all.extend([reads(cores, cells), random(cores, cells), typical(cores, cells)]);
+            all.extend([
+                reads(cores, cells),
+                random(cores, cells),
+                typical(cores, cells),
+            ]);
         }
         all.extend([local(cores, 256), ping_pong(cores, 1), ping_pong(cores, 16)]);
         all.extend([programs::spin(cores), programs::private(cores)]);
@@ -184,7 +222,10 @@ impl Workload {
 
     /// The same cores over another text.
     pub fn with_text(&self, text: &[u8]) -> Workload {
-        Workload { text: text.to_vec(), ..self.clone() }
+        Workload {
+            text: text.to_vec(),
+            ..self.clone()
+        }
     }
 
     /// The cells as a session starts with them.
@@ -197,7 +238,8 @@ impl Workload {
         vec![0xAA; self.cores * LOG_BYTES]
     }
 
-    /// Records turns up to the first that finds its log full, or until no core has one left, or as many as wanted.
+    /// Records turns up to the first that finds its log full, or until no core has one left, or as
+    /// many as wanted.
     pub fn recorded(&self, reduction: Reduction, most: usize) -> Recording {
         match reduction {
             Reduction::KeepAll => self.recorded_with::<KeepAll>(reduction, most),
@@ -219,7 +261,9 @@ impl Workload {
         let mut store = self.new_store();
         let mut recorder = Recorder::<R>::default();
         let sizes = self.session(reduction).sizes();
-        recorder.begin(sizes, cores, &cells, &mut store).expect("sizes in range");
+        recorder
+            .begin(sizes, cores, &cells, &mut store)
+            .expect("sizes in range");
         let mut order = Order::new(self.schedule, self.cores);
         let mut turns = vec![];
         while turns.len() < most {
@@ -253,7 +297,13 @@ struct Order {
 impl Order {
     fn new(schedule: Schedule, cores: usize) -> Self {
         let going = (0..cores as u8).collect();
-        Order { schedule, random: Random::new(12345), going, burst: (0, 0), turn: 0 }
+        Order {
+            schedule,
+            random: Random::new(12345),
+            going,
+            burst: (0, 0),
+            turn: 0,
+        }
     }
 
     fn next(&mut self) -> Option<u8> {

@@ -4,7 +4,8 @@ use crate::records::{ARC_BYTES, HEAD_BYTES};
 use crate::reducers::Source;
 use crate::sizes::{MAX_CORES, Settled};
 
-/// What is wrong with a log: the layer at which it shows, the log's core, the record's offset, and the cause.
+/// What is wrong with a log: the layer at which it shows, the log's core, the record's offset, and
+/// the cause.
 #[derive(Clone, Copy, Debug, PartialEq, Eq)]
 pub struct Fault {
     pub layer: u8,
@@ -13,8 +14,8 @@ pub struct Fault {
     pub cause: u8,
 }
 
-/// A place among the arcs of a log: the last target, each source core's latest target, and the arcs before it, counted up to
-/// 65,536.
+/// A place among the arcs of a log: the last target, each source core's latest target, and the arcs
+/// before it, counted up to 65,536.
 #[derive(Clone, Copy)]
 pub(crate) struct Place {
     pub offset: usize,

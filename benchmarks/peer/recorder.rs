@@ -25,70 +25,65 @@ pub struct Recorded {
     pub arcs: u16,
 }
 
-/// An access by its position among all turns and its count among its core's; position 0 for none.
+/// An access that was made: its position among all turns and its count among its core's. Position
+/// 0: none.
 #[derive(Clone, Copy, Default)]
-struct Mark {
-    position: u32,
-    count: u16,
-}
-
-/// The last write of a cell, and each core's latest read since.
-#[derive(Clone, Copy, Default)]
-struct CellHistory {
-    write: Mark,
-    writer: u8,
-    reads: [Mark; MAX_CORES],
-}
-
-/// An access that an arc may have to come from.
-#[derive(Clone, Copy, Default)]
-struct Candidate {
+struct Past {
     position: u32,
     count: u16,
     core: u8,
     writes: bool,
 }
 
+impl Past {
+    #[inline(always)]
+    fn is_by(&self, core: usize) -> bool {
+        usize::from(self.core) == core
+    }
+}
+
+/// The last write of a cell, and each core's latest read since.
+#[derive(Clone, Copy, Default)]
+struct CellHistory {
+    write: Past,
+    reads: [Past; MAX_CORES],
+}
+
 impl CellHistory {
     /// The last write, if another core than `core` made it.
     #[inline(always)]
-    fn write_of_another(&self, core: usize) -> Option<Candidate> {
-        let Mark { position, count } = self.write;
-        let other = position != 0 && usize::from(self.writer) != core;
-        other.then_some(Candidate { position, count, core: self.writer, writes: true })
+    fn write_of_another(&self, core: usize) -> Option<Past> {
+        (self.write.position != 0 && !self.write.is_by(core)).then_some(self.write)
     }
 
-    /// What core `from` did last: its read since the last write, or that write.
+    /// What a core did last: its read since the last write, or that write.
     #[inline(always)]
-    fn last_of(&self, from: usize) -> Option<Candidate> {
-        let read = self.reads[from];
+    fn last_of(&self, core: usize) -> Option<Past> {
+        let read = self.reads[core];
         if read.position != 0 {
-            let Mark { position, count } = read;
-            return Some(Candidate { position, count, core: from as u8, writes: false });
+            return Some(read);
         }
-        let Mark { position, count } = self.write;
-        let wrote = position != 0 && usize::from(self.writer) == from;
-        wrote.then_some(Candidate { position, count, core: from as u8, writes: true })
+        (self.write.position != 0 && self.write.is_by(core)).then_some(self.write)
     }
 
     /// What each core but `core` did last, the latest first, and how many there are.
     #[inline(always)]
-    fn of_others(&self, cores: usize, core: usize) -> ([Candidate; MAX_CORES - 1], usize) {
-        let mut found = [Candidate::default(); MAX_CORES - 1];
+    fn of_others(&self, cores: usize, core: usize) -> ([Past; MAX_CORES - 1], usize) {
+        let mut found = [Past::default(); MAX_CORES - 1];
         let mut n = 0;
-        for from in 0..cores {
-            if from == core {
+        for other in 0..cores {
+            if other == core {
                 continue;
             }
-            let Some(candidate) = self.last_of(from) else {
+            let Some(past) = self.last_of(other) else {
                 continue;
             };
             let mut at = n;
-            while at > 0 && found[at - 1].position < candidate.position {
+            while at > 0 && found[at - 1].position < past.position {
                 found[at] = found[at - 1];
                 at -= 1;
             }
-            found[at] = candidate;
+            found[at] = past;
             n += 1;
         }
         (found, n)
@@ -96,11 +91,14 @@ impl CellHistory {
 
     /// Remembers an access. A write forgets the reads before it.
     #[inline(always)]
-    fn remember(&mut self, core: usize, mark: Mark, writes: bool) {
-        if writes {
-            *self = CellHistory { write: mark, writer: core as u8, reads: Default::default() };
+    fn remember(&mut self, access: Past) {
+        if access.writes {
+            *self = CellHistory {
+                write: access,
+                reads: Default::default(),
+            };
         } else {
-            self.reads[core] = mark;
+            self.reads[usize::from(access.core & 3)] = access;
         }
     }
 }
@@ -113,7 +111,11 @@ struct Tail {
     arcs: u16,
 }
 
-const EMPTY: Tail = Tail { end: HEAD_BYTES as u32, instructions: 0, arcs: 0 };
+const EMPTY: Tail = Tail {
+    end: HEAD_BYTES as u32,
+    instructions: 0,
+    arcs: 0,
+};
 
 impl Tail {
     /// What the request does to the cells, if the log's core may go on with it.
@@ -139,18 +141,23 @@ impl Tail {
         Ok(Some(access))
     }
 
-    /// Asks about a candidate for an arc to the next instruction of `core`, an access to the cell, and logs and takes the arc where
-    /// it is not known.
+    /// Asks about a candidate for an arc to the next instruction of `core`, an access to the cell,
+    /// and logs and takes the arc where it is not known.
     #[inline(always)]
     fn log_one<R: Reducer>(
         &mut self,
         bytes: &mut [u8],
         reducer: &mut R,
-        candidate: Candidate,
+        candidate: Past,
         cell: usize,
         core: usize,
     ) {
-        let Candidate { count, core: from, writes, .. } = candidate;
+        let Past {
+            count,
+            core: from,
+            writes,
+            ..
+        } = candidate;
         let source = Source { core: from, count };
         if reducer.knows(source, core) {
             return;
@@ -182,6 +189,7 @@ pub struct Recorder<R> {
 }
 
 impl<R: Reducer> Default for Recorder<R> {
+    #[inline(always)]
     fn default() -> Self {
         Recorder {
             session: Settled::default(),
@@ -245,15 +253,33 @@ impl<R: Reducer> Recorder<R> {
         self.position += 1;
         if let Some(access) = access {
             let history = &mut self.history[access.cell];
-            let mark = Mark { position: self.position, count: tail.instructions + 1 };
-            log_arcs(tail, bytes, &mut self.reducer, history, session.cores, core, access);
-            history.remember(core, mark, access.writes);
+            let past = Past {
+                position: self.position,
+                count: tail.instructions + 1,
+                core: core as u8,
+                writes: access.writes,
+            };
+            log_arcs(
+                tail,
+                bytes,
+                &mut self.reducer,
+                history,
+                session.cores,
+                core,
+                access,
+            );
+            history.remember(past);
             self.reducer.note(core, access);
         }
         tail.count(bytes);
         let number = request.act(cells);
         state.tell(text, number);
-        Ok(Recorded { request, count: tail.instructions, number, arcs: tail.arcs - before })
+        Ok(Recorded {
+            request,
+            count: tail.instructions,
+            number,
+            arcs: tail.arcs - before,
+        })
     }
 }
 

@@ -10,7 +10,8 @@ pub struct Source {
     pub count: u16,
 }
 
-/// Is asked about each candidate for an arc, and told of each arc and access. By default it knows nothing yet.
+/// Is asked about each candidate for an arc, and told of each arc and access. By default it knows
+/// nothing yet.
 pub trait Reducer: Default {
     /// Forgets all.
     fn reset(&mut self);
@@ -82,6 +83,7 @@ pub struct Exact {
 }
 
 impl Default for Exact {
+    #[inline(always)]
     fn default() -> Self {
         Exact {
             known: Default::default(),

@@ -12,7 +12,8 @@ pub struct Sizes {
 }
 
 impl Sizes {
-    /// The session of these sizes, if they are in range and so many cores, cells and bytes are enough for them.
+    /// The session of these sizes, if they are in range and so many cores, cells and bytes are
+    /// enough for them.
     #[inline(always)]
     pub(crate) fn settle(self, cores: usize, cells: usize, store_bytes: usize) -> Option<Settled> {
         let in_range = (1..=MAX_CORES).contains(&self.cores)
