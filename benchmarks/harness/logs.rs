@@ -1,5 +1,6 @@
 //! How much the reducers log.
 
+use crate::programs;
 use crate::sides::{Reduction, Side};
 use crate::workloads::{self, LOG_BYTES, Schedule, Workload};
 
@@ -67,7 +68,8 @@ fn logged(workload: &Workload) -> Logged {
 
 /// One workload of each kind, in its own order of turns and then in bursts.
 pub fn all_logged() -> Vec<Logged> {
-    let own = workloads::one_of_each();
+    let mut own = workloads::one_of_each();
+    own.push(programs::private(4));
     let bursts = own.iter().map(|w| Workload {
         schedule: Schedule::Bursts,
         ..w.clone()

@@ -92,7 +92,11 @@ pub fn private(cores: usize) -> Workload {
             jump(0, 1),
         ]
     };
-    program("private", cores, &[part(0), part(1), part(2), part(3)])
+    program(
+        "private cells",
+        cores,
+        &[part(0), part(1), part(2), part(3)],
+    )
 }
 
 /// Peterson's algorithm round a counter, for two cores.

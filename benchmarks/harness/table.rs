@@ -16,13 +16,17 @@ pub struct Row {
     pub cases: Vec<Case>,
 }
 
-/// The rows of all kinds of call, each from its cases.
+/// The rows of all kinds of call that have cases.
 pub fn rows_by_call(mut cases: impl FnMut(Call) -> Vec<Case>) -> Vec<Row> {
     let row = |call: Call| Row {
         name: call.name().into(),
         cases: cases(call),
     };
-    Call::ALL.into_iter().map(row).collect()
+    Call::ALL
+        .into_iter()
+        .map(row)
+        .filter(|row| !row.cases.is_empty())
+        .collect()
 }
 
 /// The least, median and most of a row.
