@@ -265,7 +265,6 @@ mod tests {
 
     #[test]
     fn refused_openings(rt: HostRuntime) -> Result<(), Fail> {
-        let bench = Bench::opened(&rt, Exact::new())?;
         let rows = [
             (sizes(4, 2, 12), Refusal::BadSetting),
             (sizes(3, 3, 33), Refusal::BadSetting),
@@ -276,6 +275,7 @@ mod tests {
             ),
         ];
         for (asked, expected) in rows {
+            let bench = Bench::opened(&rt, Exact::new())?;
             refused_open(&rt, bench, asked, expected)?;
         }
         Ok(())
@@ -302,7 +302,6 @@ mod tests {
     // Core 0's log is head and end, core 1's from byte 33 on is head, arc and end.
     #[test]
     fn damaged_logs(rt: HostRuntime) -> Result<(), Fail> {
-        let bench = Bench::opened(&rt, Exact::new())?;
         let rows = [
             (6, 0, 0, no_mark(at(0, 6))),
             (11, 1, 0, SessionFault::Read(RecordFault::BadEnd(at(0, 6)))),
@@ -312,6 +311,7 @@ mod tests {
             (47, 0, 1, no_mark(at(1, 13))),
         ];
         for (offset, byte, j, fault) in rows {
+            let bench = Bench::opened(&rt, Exact::new())?;
             damaged(&rt, bench, offset, byte, j, fault)?;
         }
         Ok(())
