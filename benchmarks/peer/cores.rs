@@ -19,7 +19,7 @@ pub struct Access {
 
 impl Request {
     /// What it does to the cells, if anything.
-    #[inline(always)]
+    #[inline]
     pub fn access(self) -> Option<Access> {
         let (cell, writes) = match self {
             Request::Halt | Request::Local => return None,
@@ -33,7 +33,7 @@ impl Request {
     }
 
     /// Acts on the cells, and gives the number that it brings.
-    #[inline(always)]
+    #[inline]
     pub fn act(self, cells: &mut [u16]) -> u16 {
         match self {
             Request::Halt | Request::Local => 0,
@@ -58,7 +58,7 @@ pub trait Core: Copy {
 }
 
 /// The four bytes of an item; an item 65,535 does not exist.
-#[inline(always)]
+#[inline]
 fn item(text: &[u8], place: u16) -> Option<[u8; 4]> {
     if place == u16::MAX {
         return None;
@@ -79,7 +79,7 @@ impl Core for Script {
         Script { place, last: 0 }
     }
 
-    #[inline(always)]
+    #[inline]
     fn ask(&self, text: &[u8]) -> Request {
         match item(text, self.place) {
             Some([0, ..]) => Request::Local,
@@ -96,7 +96,7 @@ impl Core for Script {
         }
     }
 
-    #[inline(always)]
+    #[inline]
     fn tell(&mut self, text: &[u8], number: u16) {
         match item(text, self.place) {
             Some([0 | 2, ..]) => self.place += 1,
@@ -117,12 +117,12 @@ pub struct Register {
 }
 
 impl Register {
-    #[inline(always)]
+    #[inline]
     fn register(&self, name: u8) -> u16 {
         self.registers[usize::from(name & 7)]
     }
 
-    #[inline(always)]
+    #[inline]
     fn cell(&self, name: u8, offset: u8) -> u16 {
         self.register(name).wrapping_add(offset.into()) & 255
     }
@@ -136,7 +136,7 @@ impl Core for Register {
         }
     }
 
-    #[inline(always)]
+    #[inline]
     fn ask(&self, text: &[u8]) -> Request {
         match item(text, self.place) {
             Some([1, _, y, z]) => Request::Read {
@@ -155,7 +155,7 @@ impl Core for Register {
         }
     }
 
-    #[inline(always)]
+    #[inline]
     fn tell(&mut self, text: &[u8], number: u16) {
         let Some([operation, x, y, z]) = item(text, self.place) else {
             return;

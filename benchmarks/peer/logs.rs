@@ -34,7 +34,7 @@ impl Place {
     };
 
     /// Behind an arc that stands here.
-    #[inline(always)]
+    #[inline]
     pub fn pass(&mut self, source: Source, target: u16) {
         self.offset += ARC_BYTES;
         self.last = target;
@@ -58,7 +58,7 @@ pub(crate) struct Log<'a> {
 }
 
 impl<'a> Log<'a> {
-    #[inline(always)]
+    #[inline]
     pub fn new(store: &'a [u8], session: &Settled, core: usize) -> Self {
         Log {
             bytes: session.log(store, core),
@@ -67,7 +67,7 @@ impl<'a> Log<'a> {
         }
     }
 
-    #[inline(always)]
+    #[inline]
     pub fn fault(&self, layer: u8, offset: usize, cause: u8) -> Fault {
         Fault {
             layer,
@@ -105,7 +105,7 @@ impl<'a> Log<'a> {
     }
 
     /// Whether an arc may stand at the place.
-    #[inline(always)]
+    #[inline]
     fn arc_stands(&self, place: &Place, source: Source, target: u16) -> bool {
         source.core < self.cores
             && source.core != self.core
@@ -116,7 +116,7 @@ impl<'a> Log<'a> {
     }
 
     /// The record at the place, if it may stand there.
-    #[inline(always)]
+    #[inline]
     pub fn next(&self, place: &Place) -> Result<Next, Fault> {
         let at = place.offset;
         match &self.bytes[at.min(self.bytes.len())..] {
@@ -168,7 +168,7 @@ pub(crate) fn read_logs(store: &[u8], session: &Settled) -> Result<[u16; MAX_COR
 }
 
 /// The instructions of a log's core.
-#[inline(always)]
+#[inline]
 fn read_log(log: &Log, cells: usize, named: &mut [u16; MAX_CORES]) -> Result<u16, Fault> {
     log.head(cells)?;
     let mut place = Place::FRONT;

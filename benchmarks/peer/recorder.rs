@@ -36,7 +36,7 @@ struct Past {
 }
 
 impl Past {
-    #[inline(always)]
+    #[inline]
     fn is_by(&self, core: usize) -> bool {
         usize::from(self.core) == core
     }
@@ -51,13 +51,13 @@ struct CellHistory {
 
 impl CellHistory {
     /// The last write, if another core than `core` made it.
-    #[inline(always)]
+    #[inline]
     fn write_of_another(&self, core: usize) -> Option<Past> {
         (self.write.position != 0 && !self.write.is_by(core)).then_some(self.write)
     }
 
     /// What a core did last: its read since the last write, or that write.
-    #[inline(always)]
+    #[inline]
     fn last_of(&self, core: usize) -> Option<Past> {
         let read = self.reads[core];
         if read.position != 0 {
@@ -67,7 +67,7 @@ impl CellHistory {
     }
 
     /// What each core but `core` did last, the latest first, and how many there are.
-    #[inline(always)]
+    #[inline]
     fn of_others(&self, cores: usize, core: usize) -> ([Past; MAX_CORES - 1], usize) {
         let mut found = [Past::default(); MAX_CORES - 1];
         let mut n = 0;
@@ -90,7 +90,7 @@ impl CellHistory {
     }
 
     /// Remembers an access. A write forgets the reads before it.
-    #[inline(always)]
+    #[inline]
     fn remember(&mut self, access: Past) {
         if access.writes {
             *self = CellHistory {
@@ -119,7 +119,7 @@ const EMPTY: Tail = Tail {
 
 impl Tail {
     /// What the request does to the cells, if the log's core may go on with it.
-    #[inline(always)]
+    #[inline]
     fn admit(&self, session: &Settled, request: Request) -> Result<Option<Access>, Refusal> {
         if request == Request::Halt {
             return Err(Refusal::Halted);
@@ -143,7 +143,7 @@ impl Tail {
 
     /// Asks about a candidate for an arc to the next instruction of `core`, an access to the cell,
     /// and logs and takes the arc where it is not known.
-    #[inline(always)]
+    #[inline]
     fn log_one<R: Reducer>(
         &mut self,
         bytes: &mut [u8],
@@ -171,7 +171,7 @@ impl Tail {
     }
 
     /// Counts one more instruction and writes the end record.
-    #[inline(always)]
+    #[inline]
     fn count(&mut self, bytes: &mut [u8]) {
         self.instructions += 1;
         let at = self.end as usize;
@@ -189,7 +189,7 @@ pub struct Recorder<R> {
 }
 
 impl<R: Reducer> Default for Recorder<R> {
-    #[inline(always)]
+    #[inline]
     fn default() -> Self {
         Recorder {
             session: Settled::default(),
@@ -228,7 +228,7 @@ impl<R: Reducer> Recorder<R> {
     }
 
     /// One turn of a core. A refusal changes nothing.
-    #[inline(always)]
+    #[inline]
     pub fn turn<K: Core>(
         &mut self,
         text: &[u8],
@@ -284,7 +284,7 @@ impl<R: Reducer> Recorder<R> {
 }
 
 /// Logs the arcs to an access of a core that are not known.
-#[inline(always)]
+#[inline]
 fn log_arcs<R: Reducer>(
     tail: &mut Tail,
     bytes: &mut [u8],

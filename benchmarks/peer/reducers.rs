@@ -33,7 +33,7 @@ pub struct KeepAll;
 impl Reducer for KeepAll {
     fn reset(&mut self) {}
 
-    #[inline(always)]
+    #[inline]
     fn knows(&self, source: Source, _: usize) -> bool {
         source.count == 0
     }
@@ -54,12 +54,12 @@ impl Reducer for Pairwise {
         self.known = Default::default();
     }
 
-    #[inline(always)]
+    #[inline]
     fn knows(&self, source: Source, core: usize) -> bool {
         source.count <= self.known[core][usize::from(source.core)]
     }
 
-    #[inline(always)]
+    #[inline]
     fn take(&mut self, source: Source, _: Access, core: usize) {
         let known = &mut self.known[core][usize::from(source.core)];
         *known = source.count.max(*known);
@@ -83,7 +83,7 @@ pub struct Exact {
 }
 
 impl Default for Exact {
-    #[inline(always)]
+    #[inline]
     fn default() -> Self {
         Exact {
             known: Default::default(),
@@ -98,12 +98,12 @@ impl Reducer for Exact {
         self.stamps.fill(Stamps::default());
     }
 
-    #[inline(always)]
+    #[inline]
     fn knows(&self, source: Source, core: usize) -> bool {
         source.count <= self.known[core][usize::from(source.core)]
     }
 
-    #[inline(always)]
+    #[inline]
     fn take(&mut self, source: Source, access: Access, core: usize) {
         let from = usize::from(source.core);
         let stamps = &self.stamps[access.cell];
@@ -118,7 +118,7 @@ impl Reducer for Exact {
         }
     }
 
-    #[inline(always)]
+    #[inline]
     fn note(&mut self, core: usize, access: Access) {
         let row = self.known[core];
         let stamps = &mut self.stamps[access.cell];

@@ -81,7 +81,7 @@ impl Replayer {
     }
 
     /// One step of a core. A refused or waiting step changes nothing.
-    #[inline(always)]
+    #[inline]
     pub fn step<K: Core>(
         &mut self,
         text: &[u8],
@@ -122,7 +122,7 @@ impl Replayer {
     }
 
     /// The place behind the arcs to the core's next instruction, where each one's source is done.
-    #[inline(always)]
+    #[inline]
     fn pass_arcs(&self, store: &[u8], core: usize) -> Result<Place, StepRefusal> {
         let log = Log::new(store, &self.session, core);
         let next = self.done[core] + 1;

@@ -14,7 +14,7 @@ pub struct Sizes {
 impl Sizes {
     /// The session of these sizes, if they are in range and so many cores, cells and bytes are
     /// enough for them.
-    #[inline(always)]
+    #[inline]
     pub(crate) fn settle(self, cores: usize, cells: usize, store_bytes: usize) -> Option<Settled> {
         let in_range = (1..=MAX_CORES).contains(&self.cores)
             && (1..=MAX_CELLS).contains(&self.cells)
@@ -40,7 +40,7 @@ pub(crate) struct Settled {
 
 impl Settled {
     /// Whether there is a session, and so many cores, cells and bytes are enough for it.
-    #[inline(always)]
+    #[inline]
     pub fn fits(&self, cores: usize, cells: usize, store_bytes: usize) -> bool {
         self.cores != 0
             && self.cores <= cores
@@ -48,12 +48,12 @@ impl Settled {
             && self.store_bytes <= store_bytes
     }
 
-    #[inline(always)]
+    #[inline]
     pub fn log<'a>(&self, store: &'a [u8], core: usize) -> &'a [u8] {
         &store[core * self.log_bytes..][..self.log_bytes]
     }
 
-    #[inline(always)]
+    #[inline]
     pub fn log_mut<'a>(&self, store: &'a mut [u8], core: usize) -> &'a mut [u8] {
         &mut store[core * self.log_bytes..][..self.log_bytes]
     }
