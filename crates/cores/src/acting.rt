@@ -1,9 +1,9 @@
-// What a request does to the cells.
+// What a request does to the cells and to its core.
 ghost use Rattle.std.specs.Prelude.{◌≡◌, slice_index, slice_set};
 ghost use Rattle.cores.specs.Acting.{within};
 ghost use Rattle.cores.specs.Memory.{brought, stored};
 
-use crate::interface::Request;
+use crate::interface::{Core, Request};
 
 // Whether the request names no cell at or above `cell_count`.
 #[inline(always)]
@@ -37,6 +37,18 @@ pub fn act(request: Request, cells: &mut [u16]) -> u16
             old
         }
     }
+}
+
+// Carries out what a core requests: memory acts, and the core is told the number that this brings, which is the answer.
+#[inline(always)]
+pub fn carry_out<K: Core>(core: &mut K, text: &[u8], request: Request, cells: &mut [u16]) -> u16
+    ensures brings { result ≡ brought request cells.old }
+    ensures stores { cells.new ≡ stored request cells.old }
+    ensures tells { K.state core.new ≡ K.after text.now (K.state core.old) result }
+{
+    let number = act(request, cells);
+    core.tell(text, number);
+    number
 }
 
 #[inline(always)]

@@ -11,7 +11,7 @@ use crate::ledger::{Ledger, Log};
 use crate::rules::Refusal;
 use accesses::access::Access;
 use accesses::history::History;
-use cores::acting::act;
+use cores::acting::carry_out;
 use cores::interface::{Core, Request};
 use records::format::Record;
 use records::settings::{CheckedSizes, Heading, Sizes};
@@ -172,8 +172,7 @@ impl<R: Reducer> Recorder<R> {
         let request = core.ask(text);
         self.ledger.admit(j, request)?;
         let (count, arcs) = self.enter(store, j, request);
-        let number = act(request, cells);
-        core.tell(text, number);
+        let number = carry_out(&mut core, text, request, cells);
         cores[j] = core;
         Ok(Recorded {
             request,

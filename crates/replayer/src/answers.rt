@@ -1,5 +1,6 @@
-ghost use Rattle.std.specs.Prelude.{◌≡◌};
+ghost use Rattle.std.specs.Prelude.{◌≡◌, ◌<◌, ◌≤◌};
 ghost use Rattle.replayer.specs.Answers.{step_refusal_from};
+ghost use Rattle.replayer.specs.declared.answers.Ended.TheVariants.{Finished, Stopped};
 
 use cores::interface::Request;
 use records::faults::{Refusal, SessionFault};
@@ -41,4 +42,18 @@ impl From<Refusal> for StepRefusal {
 pub enum Ended {
     Finished(u32),
     Stopped(u32),
+}
+
+impl Ended {
+    // How a run ends that carried out so many steps of as many as were left.
+    pub(crate) fn of(steps: u32, left: u32) -> Ended
+        ensures stopped { steps < left → result ≡ Stopped steps }
+        ensures finished { left ≤ steps → result ≡ Finished steps }
+    {
+        if steps < left {
+            Ended::Stopped(steps)
+        } else {
+            Ended::Finished(steps)
+        }
+    }
 }

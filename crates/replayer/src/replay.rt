@@ -9,7 +9,7 @@ ghost use Rattle.replayer.specs.Runs.{left, session, circled, ran, RunKept, Awai
 
 use crate::answers::{Done, Ended, StepRefusal};
 use crate::group::{Group, read_group};
-use cores::acting::{act, cell_exists};
+use cores::acting::{carry_out, cell_exists};
 use cores::interface::{Core, Request};
 use logs::session::read_logs;
 use records::faults::Refusal;
@@ -156,8 +156,7 @@ impl Replayer {
         let mut core = cores[j];
         let request = core.ask(text);
         let count = self.go_on(j, group, request)?;
-        let number = act(request, cells);
-        core.tell(text, number);
+        let number = carry_out(&mut core, text, request, cells);
         cores[j] = core;
         Ok(Done {
             request,
@@ -257,10 +256,10 @@ impl Replayer {
         while steps < total {
             let moved = self.circle(text, cores, cells, store, &mut known);
             if moved == 0 {
-                return Ok(Ended::Stopped(steps));
+                return Ok(Ended::of(steps, total));
             }
             steps += moved;
         }
-        Ok(Ended::Finished(steps))
+        Ok(Ended::of(steps, total))
     }
 }

@@ -41,17 +41,17 @@ returns-clause-outcome g c =
     (tape g.R.Reducer.numbers a.self.now a.store.now) a.j c.if-not-held_by.ensures (omega (arith, c.if-j-get.false, cores_of c.get.ensures.same))
     c.ask-request.result (same_request _ _ c.ask-request.ensures ∙ ap (g.K.Core.next a.text.now) (sym at)) c.in_ok-admit.ensures
     c.enter-count.result.0 c.enter-count.ensures.count c.enter-count.result.1 (tape g.R.Reducer.numbers c.enter-count.new.self c.enter-count.new.store) c.enter-count.ensures.entered
-    c.act-number.result c.act-number.new.cells c.act-number.ensures.brings c.act-number.ensures.stores
-    (set a.cores.now a.j c.tell.new.self) (tells g.K.Core.state a.text.now a.cores.now a.j g.K.Core.after c.act-number.result inside c.index-cores-j.result c.index-cores-j.is c.tell.new.self c.tell.ensures)
+    c.carry_out-number.result c.carry_out-number.new.cells c.carry_out-number.ensures.brings c.carry_out-number.ensures.stores
+    (set a.cores.now a.j c.carry_out-number.new.core) (tells g.K.Core.state a.text.now a.cores.now a.j g.K.Core.after c.carry_out-number.result inside c.index-cores-j.result c.index-cores-j.is c.carry_out-number.new.core c.carry_out-number.ensures.tells)
 
 pub returns-clause-others : goal.returns-clause-others
-returns-clause-others g c = others_kept c.args.cores.now c.args.j c.tell.new.self
+returns-clause-others g c = others_kept c.args.cores.now c.args.j c.carry_out-number.new.core
 
 pub returns-clause-surplus : goal.returns-clause-surplus
 returns-clause-surplus g c =
     let a = c.args in
     let z = a.self.now.ledger.sizes in
     let inside = (unbarred (book a.self.now.ledger) a.j c.ask-request.result (sym c.in_ok-admit.ensures)).inside in (
-      drop_further (a.j + 1) z.cores (set a.cores.now a.j c.tell.new.self) a.cores.now (omega (arith, c.if-j-get.false, cores_of c.get.ensures.same)) (others_kept a.cores.now a.j c.tell.new.self).1,
-      ap (drop z.cells) c.act-number.ensures.stores ∙ stored_surplus c.ask-request.result z.cells a.cells.now inside,
+      drop_further (a.j + 1) z.cores (set a.cores.now a.j c.carry_out-number.new.core) a.cores.now (omega (arith, c.if-j-get.false, cores_of c.get.ensures.same)) (others_kept a.cores.now a.j c.carry_out-number.new.core).1,
+      ap (drop z.cells) c.carry_out-number.ensures.stores ∙ stored_surplus c.ask-request.result z.cells a.cells.now inside,
     )

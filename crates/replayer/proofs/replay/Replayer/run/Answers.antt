@@ -1,11 +1,20 @@
 -- Each circle that carries something out leaves fewer instructions, and what a run says is what its circles come to.
-use Rattle.std.proofs.Common.{◌≡◌, map, length, sym, refl, ◌∙◌, subst, arith, rules}
+use Rattle.std.proofs.Common.{◌≡◌, ℕ, List, map, length, Ok, Result, sym, refl, ap, ◌∙◌, subst, arith, rules}
 use Rattle.std.proofs.lemmas.List.{length-map}
 use Rattle.replayer.specs.Runs.{session}
 use Rattle.records.specs.Settings.{SurplusKept}
 use Rattle.replayer.proofs.Runs.{run_unsettled, running_start, running_over, running_stop, running_more, Moves, around_moves}
 use Rattle.replayer.proofs.Waiting.{none_known}
+use Rattle.records.specs.declared.faults.Refusal.{Refusal}
+use Rattle.replayer.specs.Answers.{run_numbers}
+use Rattle.replayer.specs.Steps.{Outcome}
+use Rattle.replayer.specs.declared.answers.Ended.{Ended}
+use Rattle.replayer.specs.declared.replay.Replayer.{Replayer}
 use Rattle.replayer.proofs.replay.Replayer.run.Goals as goal
+
+-- what a run says, with what is there then
+abbrev outcome : Result Ended Refusal → Replayer → List ℕ → List (List ℕ) → Outcome
+outcome says R cells states = record { says = run_numbers says; replayer = R; cells = cells; states = states }
 
 pub returns-then-not-held_by-clause-outcome : goal.returns-then-not-held_by-clause-outcome
 returns-then-not-held_by-clause-outcome g c =
@@ -37,7 +46,8 @@ returns-then-moved-eq0-clause-outcome g c =
     let a = c.args in
     let l = c.loop-steps in
     let q = c.circle-moved.new in
-    running_stop _ _ _ _ a.self.now a.cells.now (map g.K.Core.state a.cores.now) (session l.steps l.self l.cells (map g.K.Core.state l.cores)) l.invariant.0
+    ap (λ e. outcome (Ok e) q.self q.cells (map g.K.Core.state q.cores)) (c.of.ensures.stopped c.loop-steps-test.true)
+    ∙ running_stop _ _ _ _ a.self.now a.cells.now (map g.K.Core.state a.cores.now) (session l.steps l.self l.cells (map g.K.Core.state l.cores)) l.invariant.0
     (omega (arith, l.invariant.0.moves.fewer, c.left-total.ensures, c.loop-steps-test.true))
     (session c.circle-moved.result q.self q.cells (map g.K.Core.state q.cores)) c.circle-moved.ensures.circled c.if-moved-eq0.true
 
@@ -67,5 +77,6 @@ pub returns-clause-outcome : goal.returns-clause-outcome
 returns-clause-outcome g c =
     let a = c.args in
     let l = c.loop-steps in
-    running_over _ _ _ _ a.self.now a.cells.now (map g.K.Core.state a.cores.now) (session l.steps l.self l.cells (map g.K.Core.state l.cores)) l.invariant.0
+    ap (λ e. outcome (Ok e) l.self l.cells (map g.K.Core.state l.cores)) (c.of-2.ensures.finished (omega (arith, c.loop-steps-test.false)))
+    ∙ running_over _ _ _ _ a.self.now a.cells.now (map g.K.Core.state a.cores.now) (session l.steps l.self l.cells (map g.K.Core.state l.cores)) l.invariant.0
     (omega (arith, l.invariant.0.moves.fewer, c.left-total.ensures, c.loop-steps-test.false))

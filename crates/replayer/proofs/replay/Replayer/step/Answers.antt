@@ -36,20 +36,20 @@ returns-clause-outcome g c =
     let may = c.in_ok-group.ensures.1 in
     let inside : a.j < length a.cores.now = omega (arith, may.known, may.enough) in
     let at = here g.K.Core.state a.text.now a.cores.now a.j inside c.index-cores-j.result c.index-cores-j.is in
-    (λ i. record { says = step_numbers (Ok (record { request = c.ask-request.result; count = went.3 i; number = c.act-number.result })); replayer = went.4 i; cells = c.act-number.new.cells; states = map g.K.Core.state (set a.cores.now a.j c.tell.new.self) })
+    (λ i. record { says = step_numbers (Ok (record { request = c.ask-request.result; count = went.3 i; number = c.carry_out-number.result })); replayer = went.4 i; cells = c.carry_out-number.new.cells; states = map g.K.Core.state (set a.cores.now a.j c.carry_out-number.new.core) })
     ∙ done _ _ _ _ _ _ _ _ _ c.in_ok-group.group c.in_ok-group.ensures.0 may went.0
     c.ask-request.result (same_request _ _ c.ask-request.ensures ∙ ap (g.K.Core.next a.text.now) (sym at)) went.1 went.2
-    _ c.act-number.ensures.brings _ c.act-number.ensures.stores _
-    (tells g.K.Core.state a.text.now a.cores.now a.j g.K.Core.after c.act-number.result inside c.index-cores-j.result c.index-cores-j.is c.tell.new.self c.tell.ensures)
+    _ c.carry_out-number.ensures.brings _ c.carry_out-number.ensures.stores _
+    (tells g.K.Core.state a.text.now a.cores.now a.j g.K.Core.after c.carry_out-number.result inside c.index-cores-j.result c.index-cores-j.is c.carry_out-number.new.core c.carry_out-number.ensures.tells)
 
 pub returns-clause-others : goal.returns-clause-others
-returns-clause-others g c = others_kept c.args.cores.now c.args.j c.tell.new.self
+returns-clause-others g c = others_kept c.args.cores.now c.args.j c.carry_out-number.new.core
 
 pub returns-clause-surplus : goal.returns-clause-surplus
 returns-clause-surplus g c =
     let a = c.args in (
-      drop_further (a.j + 1) a.self.now.sizes.cores (set a.cores.now a.j c.tell.new.self) a.cores.now (omega (arith, c.in_ok-group.ensures.1.known)) (others_kept a.cores.now a.j c.tell.new.self).1,
-      ap (drop a.self.now.sizes.cells) c.act-number.ensures.stores ∙ stored_surplus c.ask-request.result a.self.now.sizes.cells a.cells.now (sym c.in_ok-count.ensures.2),
+      drop_further (a.j + 1) a.self.now.sizes.cores (set a.cores.now a.j c.carry_out-number.new.core) a.cores.now (omega (arith, c.in_ok-group.ensures.1.known)) (others_kept a.cores.now a.j c.carry_out-number.new.core).1,
+      ap (drop a.self.now.sizes.cells) c.carry_out-number.ensures.stores ∙ stored_surplus c.ask-request.result a.self.now.sizes.cells a.cells.now (sym c.in_ok-count.ensures.2),
     )
 
 -- each in words
