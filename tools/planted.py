@@ -138,4 +138,5 @@ def main():
     sys.exit(any(counts[kind, it] for kind in KINDS for it in (SURVIVED, UNTRIED)))
 
 
-main()
+if __name__ == "__main__":
+    main()
