@@ -64,9 +64,7 @@ fn say_listing<W: World>(heap: Global, world: &mut W) -> anyhow::Result<()>
         (λ _. Known (W.state world.old) (W.state world.new) Inspected)
         (λ _. Known (W.state world.old) (W.state world.new) Disturbed) }
 {
-    let words = world
-        .arguments()
-        .map_err(|e| anyhow!("cannot read the arguments: {e}"))?;
+    let words = world.arguments()?;
     let asked = asked(words.as_slice())?;
     let text = listing_of(heap, world, asked)?;
     world.say(text)?;

@@ -155,7 +155,7 @@ room_in bytes z q =
     let p₆ = (and_parts (leb z.log_bytes 16384) _ p₅).1 in
     leb-true (z.cores * z.log_bytes) bytes p₆
 
-write_restores : (store : List ℕ) (z : Sizes) (out : List ℕ) → AllByRecursion (λ b. b < 256) store → (write_session store z out).says ≡ 0 ∷ [] → Restored store z out (write_session store z out).store
+pub write_restores : (store : List ℕ) (z : Sizes) (out : List ℕ) → AllByRecursion (λ b. b < 256) store → (write_session store z out).says ≡ 0 ∷ [] → Restored store z out (write_session store z out).store
 write_restores store z out octets = go (fits (length out) z) refl (fits (length store) z) refl (session store z) refl
   where
     go : (b₁ : Bool) → fits (length out) z ≡ b₁ → (b₂ : Bool) → fits (length store) z ≡ b₂ → (r : Result (List ℕ) Fault) → session store z ≡ r →

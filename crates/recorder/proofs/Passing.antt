@@ -15,20 +15,21 @@ settled_parts z cores cells bytes e = (grind (arith, nat_tests), grind (arith, n
 
 pub record Unbarred (b : Book) (j : ℕ) (request : Request) : Type 0 where
   pub runs : halts request ≡ false
+  pub left : eqb (log_in b j).instructions 65535 ≡ false
   pub inside : within request b.sizes.cells ≡ true
   pub roomy : full b j (touched request) ≡ false
 
 pub unbarred : (b : Book) (j : ℕ) (request : Request) → barred b j request ≡ 0 → Unbarred b j request
 unbarred b j request e =
     let t = go (halts request) (eqb (log_in b j).instructions 65535) (within request b.sizes.cells) (full b j (touched request)) e in
-    record { runs = t.0; inside = t.1; roomy = t.2 }
+    record { runs = t.0; left = t.1; inside = t.2; roomy = t.3 }
   where
-    go : (h s i f : Bool) → ◌≡◌ {A = ℕ} (cond h 2 (cond s 3 (cond i (cond f 5 0) 4))) 0 → (h ≡ false) × (i ≡ true) × (f ≡ false)
+    go : (h s i f : Bool) → ◌≡◌ {A = ℕ} (cond h 2 (cond s 3 (cond i (cond f 5 0) 4))) 0 → (h ≡ false) × (s ≡ false) × (i ≡ true) × (f ≡ false)
     go true s i f q = absurd (omega arith)
     go false true i f q = absurd (omega arith)
     go false false false f q = absurd (omega arith)
     go false false true true q = absurd (omega arith)
-    go false false true false q = (refl, refl, refl)
+    go false false true false q = (refl, refl, refl, refl)
 
 -- a turn that is not refused
 pub record Passed (K : Rules) (j : ℕ) (w : World) : Type 0 where
@@ -39,6 +40,7 @@ pub record Passed (K : Rules) (j : ℕ) (w : World) : Type 0 where
   pub here : j < w.tape.book.sizes.cores
   pub free : barred w.tape.book j (asks K j w) ≡ 0
   pub runs : halts (asks K j w) ≡ false
+  pub left : eqb (log_in w.tape.book j).instructions 65535 ≡ false
   pub inside : within (asks K j w) w.tape.book.sizes.cells ≡ true
 
 pub passed : (K : Rules) (j : ℕ) (w : World) → refusal K j w ≡ 0 → Passed K j w
@@ -48,7 +50,7 @@ passed K j w e =
     let h = go (ready w) (leb b.sizes.cores j) (barred b j (asks K j w)) e in
     let s = settled_parts b.sizes (length w.states) (length w.cells) (length w.tape.store) h.0 in
     let u = unbarred b j (asks K j w) h.2 in
-    record { fitting = s.0; cores = s.1; cells = s.2; few = s.3; here = leb-false b.sizes.cores j h.1; free = h.2; runs = u.runs; inside = u.inside }
+    record { fitting = s.0; cores = s.1; cells = s.2; few = s.3; here = leb-false b.sizes.cores j h.1; free = h.2; runs = u.runs; left = u.left; inside = u.inside }
   where
     go : (r a : Bool) (n : ℕ) → cond (not r) 8 (cond a 1 n) ≡ 0 → (r ≡ true) × (a ≡ false) × (n ≡ 0)
     go false a n q = absurd (omega arith)

@@ -6,11 +6,10 @@ use Rattle.records.specs.declared.settings.Sizes.{Sizes}
 use Rattle.reducers.specs.Numbers.{Numbers, Meets}
 use Rattle.runs.specs.Recording.{Arc, Recording, begin, turn}
 use Rattle.runs.proofs.Decided.{choice_is_recorded}
-use Rattle.runs.specs.Reducers.{Reducer, by_choice, recorded}
-use Rattle.runs.specs.Runs.{Run}
+use Rattle.runs.specs.Reducers.{Reducer, by_choice}
 use Rattle.recordings.specs.ByTheRules.{ByTheRules, plainly_said}
 use Rattle.recordings.specs.ByTheRules as rules
-use Rattle.recordings.specs.Decided.{arcs_by, accepted_by, said_by, RulesDecide}
+use Rattle.recordings.specs.Decided.{arcs_by, accepted_by, said_by, DecidesArcs, ArcsDecide, RulesDecide}
 use Rattle.recordings.specs.Refused.{turn_refusal}
 use Rattle.recordings.specs.Tracks.{run_of, logs_of}
 
@@ -20,7 +19,7 @@ module _ (meets : Meets) (K : Rules) (z : Sizes) (m : Memory) where
   rules_record js says u N L (rules.refuses {js = ks} {says = past} b j q) = rules_record ks past u N L b
   rules_record js says u N L (rules.accepts {js = ks} {says = past} {u = t} {N = M} {L = A} b j q l) = turn (rules_record ks past t M A b) l.judged l.noted
 
-  module _ (R : Reducer) (d : (r : Run) (N : Numbers) (L : List Arc) → Recording meets r N L → L ≡ (recorded R r).arcs) where
+  module _ (R : Reducer) (d : DecidesArcs meets R) where
     refuses_as : (js : List ℕ) (u : List ℕ) (L : List Arc) (j : ℕ) → u ≡ accepted_by R K z m js → L ≡ arcs_by R K m u →
         let t = accepted_by R K z m js in
         turn_refusal K z true (plain K m u) (logs_of j L) j ≡ turn_refusal K z true (plain K m t) (logs_of j (arcs_by R K m t)) j
@@ -64,9 +63,12 @@ module _ (meets : Meets) (K : Rules) (z : Sizes) (m : Memory) where
         let rest = says_are ks past t M A b in
         λ i. head i ∷ rest i
 
+pub arcs_decide : (meets : Meets) → ArcsDecide meets
+arcs_decide meets R d K z m js says u N L b =
+    (decide meets K z m R d js says u N L b, d (run_of K m u) N L (rules_record meets K z m js says u N L b), says_are meets K z m R d js says u N L b)
+
 pub rules_decide : (meets : Meets) → RulesDecide meets
 rules_decide meets F one K z m js says u N L b =
-    let R = by_choice F in
-    let d : (r : Run) (N : Numbers) (L : List Arc) → Recording meets r N L → L ≡ (recorded R r).arcs = λ r N L rec. (choice_is_recorded meets F one r N L rec).1 in
-    let rec = rules_record meets K z m js says u N L b in
-    (decide meets K z m R d js says u N L b, d (run_of K m u) N L rec, says_are meets K z m R d js says u N L b, (choice_is_recorded meets F one (run_of K m u) N L rec).0)
+    let d : DecidesArcs meets (by_choice F) = λ r N L rec. (choice_is_recorded meets F one r N L rec).1 in
+    let (accepted, arcs, answers) = arcs_decide meets (by_choice F) d K z m js says u N L b in
+    (accepted, arcs, answers, (choice_is_recorded meets F one (run_of K m u) N L (rules_record meets K z m js says u N L b)).0)

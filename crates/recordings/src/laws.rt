@@ -1,5 +1,5 @@
 ghost use Rattle.recordings.specs.ByTheRules.{TurnsGoByTheRules, AnswersFeed};
-ghost use Rattle.recordings.specs.Decided.{RulesDecide};
+ghost use Rattle.recordings.specs.Decided.{ArcsDecide, RulesDecide};
 ghost use Rattle.recordings.specs.Surplus.{TurnsKeepTheSurplus};
 ghost use Rattle.recordings.specs.Exact.{ExactRecordsTheReduction};
 ghost use Rattle.recordings.specs.Refused.{RefusalsArePlain};
@@ -12,6 +12,7 @@ use reducers::interface::Reducer;
 pub fn calls_record_the_run<R: Reducer>()
     ensures traces { TracesAreRecorded R.Reducer.meets }
     ensures turns { TurnsGoByTheRules R.Reducer.meets }
+    ensures arcs { ArcsDecide R.Reducer.meets }
     ensures decided { RulesDecide R.Reducer.meets }
     ensures surplus { TurnsKeepTheSurplus R.Reducer.meets }
     ensures refusals { RefusalsArePlain R.Reducer.meets }

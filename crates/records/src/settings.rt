@@ -48,10 +48,18 @@ impl Sizes {
 
 // Whether the sizes are in range, with at least so many bytes a log, and the buffers are long enough for them.
 #[inline(always)]
-fn buffers_hold(sizes: Sizes, least: usize, cores: usize, cells: usize, store_bytes: usize) -> bool
+fn hold_from(sizes: Sizes, least: usize, cores: usize, cells: usize, store_bytes: usize) -> bool
     ensures { result ≡ settled_from least sizes cores cells store_bytes }
 {
     sizes.fit_from(least, store_bytes) && sizes.cores <= cores && sizes.cells <= cells
+}
+
+// The same for logs to be opened.
+#[inline(always)]
+pub fn buffers_hold(sizes: Sizes, cores: usize, cells: usize, store_bytes: usize) -> bool
+    ensures { result ≡ settled sizes cores cells store_bytes }
+{
+    hold_from(sizes, LEAST_OPENED, cores, cells, store_bytes)
 }
 
 // The same for a recording to begin.
@@ -59,7 +67,7 @@ fn buffers_hold(sizes: Sizes, least: usize, cores: usize, cells: usize, store_by
 pub fn can_begin(sizes: Sizes, cores: usize, cells: usize, store_bytes: usize) -> bool
     ensures { result ≡ may_begin sizes cores cells store_bytes }
 {
-    buffers_hold(sizes, LEAST_BEGUN, cores, cells, store_bytes)
+    hold_from(sizes, LEAST_BEGUN, cores, cells, store_bytes)
 }
 
 // The sizes of a session that was begun or opened, all 0 before any. Their ranges were tested then, and need be no more.
@@ -116,7 +124,7 @@ impl CheckedSizes {
     ) -> Option<CheckedSizes>
         ensures { result ≡ passed_by (settled sizes cores cells store_bytes) sizes }
     {
-        if !buffers_hold(sizes, LEAST_OPENED, cores, cells, store_bytes) {
+        if !buffers_hold(sizes, cores, cells, store_bytes) {
             return None;
         }
         Some(CheckedSizes { sizes })

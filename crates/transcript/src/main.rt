@@ -18,7 +18,7 @@ struct Shown<'a> {
 }
 
 impl World for Shown<'_> {
-    fn arguments(&mut self) -> io::Result<Vec<String>> {
+    fn arguments(&mut self) -> anyhow::Result<Vec<String>> {
         let heap = self.rt.alloc();
         let words = self.words.split_whitespace().skip(1);
         Ok(

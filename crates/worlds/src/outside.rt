@@ -1,4 +1,5 @@
 use crate::world::World;
+use anyhow::anyhow;
 use std::env::Env;
 use std::fmt::Display;
 use std::io::Read;
@@ -12,8 +13,13 @@ pub struct Outside<'a, R> {
 }
 
 impl<R: Env + Files + Input + Print + Eprint + AllocGlobal> World for Outside<'_, R> {
-    fn arguments(&mut self) -> io::Result<Vec<String>> {
-        Ok(env::args(self.rt)?.skip(1).collect(self.rt.alloc())?)
+    // The words of an error take memory too; where there is none, want of it is what is said.
+    fn arguments(&mut self) -> anyhow::Result<Vec<String>> {
+        let heap = self.rt.alloc();
+        match env::args(self.rt) {
+            Ok(words) => Ok(words.skip(1).collect(heap)?),
+            Err(e) => Err(anyhow!(format!(in heap; "cannot read the arguments: {e}")?)),
+        }
     }
 
     fn input(&mut self) -> io::Result<Vec<u8>> {

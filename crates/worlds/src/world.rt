@@ -10,7 +10,7 @@ pub trait World {
     ghost state: { Self → Option State } = { λ _. None };
 
     // The words behind the program's name.
-    fn arguments(&mut self) -> io::Result<Vec<String>>
+    fn arguments(&mut self) -> anyhow::Result<Vec<String>>
         ensures { MatchResult result
             (λ words. GivesArguments (state self.old) (state self.new) (map string_bytes words.items))
             (λ _. Stays (state self.old) (state self.new)) };
